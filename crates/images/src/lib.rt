@@ -1,0 +1,36 @@
+// The checks of a list of images: refusals 4 and 5, by rising element.
+ghost use mathlib.Core.Path.{_≡_};
+ghost use Prim.Native.Nat.{_≤_};
+ghost use lib.ListN.{length};
+ghost use Rattle.images.specs.Images.{checkOf};
+use refusal::Refusal;
+
+// The longest list that can be checked. It is a constant so that `seen` has a fixed size.
+pub const MOST: usize = 4096;
+
+pub enum Checked {
+    Permutation,
+    Refused(Refusal),
+}
+
+// Whether the first n images are a permutation of 0 .. n - 1. Only our own crates call it, after their tests of n and of the length.
+pub fn check(images: &[u16], n: usize) -> Checked
+    requires { ⌜ (n ≤ 4096) × (n ≤ length (now images)) ⌝ }
+    ensures { λ r. ⌜ r ≡ checkOf (now (images .entry)) n ⌝ }
+{
+    let mut seen = [0u8; MOST];
+    let mut i: usize = 0;
+    while i < n {
+        let image = images[i] as usize;
+        if n <= image {
+            return Checked::Refused(Refusal::OutOfRange(i));
+        }
+        let before = seen[image];
+        if before == 1 {
+            return Checked::Refused(Refusal::Repeated(i));
+        }
+        seen[image] = 1;
+        i += 1;
+    }
+    Checked::Permutation
+}

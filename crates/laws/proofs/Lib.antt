@@ -1,0 +1,6 @@
+pub mod Choices
+pub mod Tabulates
+pub mod Splices
+pub mod Sums
+pub mod Pigeonhole
+pub mod Permutations

@@ -1,0 +1,101 @@
+-- Laws of tabulated lists and of filled prefixes. `overwrite-turn` is one turn of a loop that fills the front of a list, so the
+-- invariant of such a loop is `out ≡ overwrite i f out₀`.
+use Prim.Native.Nat.{ℕ, zero, suc, _+_, _-_, _<_, _≤_}
+use mathlib.Core.Path.{_≡_, refl, sym, ap, ap₂, _∙_}
+use mathlib.Core.List.{List, [], _∷_, _++_, append-assoc, append-nil}
+use native.Mathlib.Omega.{arith}
+use native.Mathlib.Numerals.{add-one}
+use native.Mathlib.Decide.{decLt}
+use native.Mathlib.Nat.{add-zero, add-suc}
+use lib.ListN.{length, take, drop, set, getD, length-append, length-drop, List·getD-append, List·getD-eq-default}
+use lib.Seq.{drop-cons, set-at, append-snoc, getD-at, getD-drop, getD-append-add, ext-getD, take-at, drop-at}
+use Rattle.laws.specs.Tabulate.{tabulate, overwrite}
+
+module _ {A : Type 0} where
+  pub length-tabulate : (n : ℕ) (f : ℕ → A) → length (tabulate n f) ≡ n
+  unfolding tabulate
+  length-tabulate zero f = refl
+  length-tabulate (suc n) f = simp (length-append, length-tabulate n f) (omega arith)
+
+  -- the element at i
+  pub getD-tabulate : (n : ℕ) (f : ℕ → A) (i : ℕ) (d : A) → i < n → getD (tabulate n f) i d ≡ f i
+  unfolding tabulate
+  getD-tabulate zero f i d h = absurd (omega arith)
+  getD-tabulate (suc n) f i d h = elim (decLt i n) [
+    | yes l ↦ List·getD-append (tabulate n f) (f n ∷ []) d i (rw (length-tabulate n f) l) ∙ getD-tabulate n f i d l
+    | no m ↦ let e : i ≡ n = omega arith in rw e (getD-at (tabulate n f) (f n) [] d n (length-tabulate n f))
+  ]
+
+  -- there is no element from n on
+  pub getD-tabulate-past : (n : ℕ) (f : ℕ → A) (i : ℕ) (d : A) → n ≤ i → getD (tabulate n f) i d ≡ d
+  getD-tabulate-past n f i d h = List·getD-eq-default (tabulate n f) d (rw (length-tabulate n f) h)
+
+  -- functions that agree below n make the same list
+  pub tabulate-ext : (n : ℕ) (f g : ℕ → A) → ((i : ℕ) → i < n → f i ≡ g i) → tabulate n f ≡ tabulate n g
+  unfolding tabulate
+  tabulate-ext zero f g h = refl
+  tabulate-ext (suc n) f g h =
+      ap₂ (λ (xs : List A) (x : A). xs ++ (x ∷ [])) (tabulate-ext n f g (λ i l. h i (omega arith))) (h n (omega arith))
+
+  -- a list is the table of its elements
+  pub tabulate-getD : (xs : List A) (d : A) → xs ≡ tabulate (length xs) (λ i. getD xs i d)
+  tabulate-getD xs d =
+      ext-getD d xs (tabulate (length xs) (λ i. getD xs i d)) (sym (length-tabulate (length xs) (λ i. getD xs i d)))
+      (λ i l. sym (getD-tabulate (length xs) (λ i. getD xs i d) i d l))
+
+  -- the first element taken off
+  pub tabulate-cons : (n : ℕ) (f : ℕ → A) → tabulate (suc n) f ≡ f 0 ∷ tabulate n (λ i. f (suc i))
+  unfolding tabulate
+  tabulate-cons zero f = refl
+  tabulate-cons (suc n) f = ap (λ (xs : List A). xs ++ (f (suc n) ∷ [])) (tabulate-cons n f)
+
+  -- a table in two parts
+  pub tabulate-append : (m n : ℕ) (f : ℕ → A) → tabulate (m + n) f ≡ tabulate m f ++ tabulate n (λ i. f (m + i))
+  unfolding tabulate
+  tabulate-append m zero f = rw (add-zero, append-nil)
+  tabulate-append m (suc n) f =
+      rw (add-suc, tabulate-append m n f) (append-assoc (tabulate m f) (tabulate n (λ i. f (m + i))) (f (m + n) ∷ []))
+
+  pub length-overwrite : (n : ℕ) (f : ℕ → A) (xs : List A) → n ≤ length xs → length (overwrite n f xs) ≡ length xs
+  unfolding overwrite
+  length-overwrite n f xs h = simp (length-append, length-drop, length-tabulate) (omega arith)
+
+  -- the filled front
+  pub getD-overwrite : (n : ℕ) (f : ℕ → A) (xs : List A) (i : ℕ) (d : A) → i < n → getD (overwrite n f xs) i d ≡ f i
+  unfolding overwrite
+  getD-overwrite n f xs i d h =
+      List·getD-append (tabulate n f) (drop n xs) d i (rw (length-tabulate n f) h) ∙ getD-tabulate n f i d h
+
+  -- what lies behind it
+  pub getD-overwrite-past : (n : ℕ) (f : ℕ → A) (xs : List A) (i : ℕ) (d : A) → n ≤ i → getD (overwrite n f xs) i d ≡ getD xs i d
+  unfolding overwrite
+  getD-overwrite-past n f xs i d h =
+      let e : i ≡ length (tabulate n f) + (i - n) = omega (arith, length-tabulate n f) in
+      let g : n + (i - n) ≡ i = omega arith in
+      ap (λ (j : ℕ). getD (tabulate n f ++ drop n xs) j d) e ∙ getD-append-add (tabulate n f) (drop n xs) (i - n) d ∙ getD-drop n xs (i - n) d
+      ∙ ap (λ (j : ℕ). getD xs j d) g
+
+  pub take-overwrite : (n : ℕ) (f : ℕ → A) (xs : List A) → take n (overwrite n f xs) ≡ tabulate n f
+  unfolding overwrite
+  take-overwrite n f xs = take-at (tabulate n f) (drop n xs) n (length-tabulate n f)
+
+  pub drop-overwrite : (n : ℕ) (f : ℕ → A) (xs : List A) → drop n (overwrite n f xs) ≡ drop n xs
+  unfolding overwrite
+  drop-overwrite n f xs = drop-at (tabulate n f) (drop n xs) n (length-tabulate n f)
+
+  pub overwrite-ext : (n : ℕ) (f g : ℕ → A) (xs : List A) → ((i : ℕ) → i < n → f i ≡ g i) → overwrite n f xs ≡ overwrite n g xs
+  unfolding overwrite
+  overwrite-ext n f g xs h = ap (λ (ys : List A). ys ++ drop n xs) (tabulate-ext n f g h)
+
+  -- before the first turn of a loop that fills the front
+  pub overwrite-none : (f : ℕ → A) (xs : List A) → xs ≡ overwrite 0 f xs
+  unfolding overwrite tabulate
+  overwrite-none f xs = refl
+
+  -- one turn of it
+  pub overwrite-turn : (n : ℕ) (f : ℕ → A) (xs : List A) (d : A) → n < length xs → set (overwrite n f xs) n (f n) ≡ overwrite (n + 1) f xs
+  unfolding overwrite tabulate
+  overwrite-turn n f xs d h =
+      rw (add-one, drop-cons xs n d)
+      (set-at (tabulate n f) (getD xs n d) (drop (suc n) xs) (f n) n (length-tabulate n f)
+      ∙ sym (append-snoc (tabulate n f) (f n) (drop (suc n) xs)))

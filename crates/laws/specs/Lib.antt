@@ -1,0 +1,5 @@
+pub mod Choice
+pub mod Tabulate
+pub mod Splice
+pub mod Sum
+pub mod Permutation

@@ -1,0 +1,13 @@
+-- Lists given by a function of the position.
+use Prim.Native.Nat.{ℕ, zero, suc}
+use mathlib.Core.List.{List, [], _∷_, _++_}
+use lib.ListN.{drop}
+
+-- f 0, .., f (n - 1)
+unfoldable pub tabulate : {A : Type 0} → ℕ → (ℕ → A) → List A
+tabulate zero f = []
+tabulate (suc n) f = tabulate n f ++ (f n ∷ [])
+
+-- the first n elements are f's, the later ones are those of xs
+unfoldable pub overwrite : {A : Type 0} → ℕ → (ℕ → A) → List A → List A
+overwrite n f xs = tabulate n f ++ drop n xs
