@@ -1,4 +1,5 @@
 pub mod Choices
+pub mod Anys
 pub mod Tabulates
 pub mod Splices
 pub mod Sums

@@ -1,4 +1,5 @@
 pub mod Choice
+pub mod Any
 pub mod Tabulate
 pub mod Splice
 pub mod Sum

@@ -1,0 +1,213 @@
+-- Bits and fields of a list of bytes. A bit is a digit of a byte, so a list of bytes is known by its bits (`bits-ext`), and a field by its
+-- own (`field-cong`, `field-digits`). `putField` changes the bits of its field and no others: what was put is read back, and every field
+-- beside it stays. Assumes nothing.
+use Prim.Native.Nat.{ℕ, zero, suc, _+_, _-_, _*_, _/_, _%_, _^_, _<_, _≤_}
+use mathlib.Core.List.{List}
+use mathlib.Core.Logic.{_≢_, _⊎_, inl, inr, ⊎-elim}
+use mathlib.Core.Path.{_≡_, refl, sym, ap₂, _∙_}
+use native.Mathlib.Decide.{ℕ-discrete, decLt}
+use native.Mathlib.Nat.{add-suc, add-zero, mod-eq-of-lt, mod-one, mul-assoc, pow-suc, zero-div}
+use native.Mathlib.Numerals.{add-one}
+use native.Mathlib.Omega.{arith}
+use lib.ListN.{length, getD, set, length-set, List·getD-eq-default}
+use lib.Pow.{mod-pow-add}
+use lib.Seq.{ext-getD, getD-set-same, getD-set-other, set-out}
+use Rattle.bits.specs.Bits.{Bytes, digit, withDigits, bit, field, putBit, putField}
+use Rattle.bits.proofs.Digits.{digit-lt, digit-zero, digit-div, digits-ext, digit-withDigits-inside}
+use Rattle.bits.proofs.Digits.{digit-withDigits-below, digit-withDigits-above, withDigits-lt}
+
+-- ---- bits
+
+-- A bit is 0 or 1.
+pub bit-lt : (xs : List ℕ) (i : ℕ) → bit xs i < 2
+unfolding bit
+bit-lt xs i = digit-lt _ _
+
+-- Past the end a bit is 0.
+pub bit-past : (xs : List ℕ) (i : ℕ) → 8 * length xs ≤ i → bit xs i ≡ 0
+unfolding bit digit
+bit-past xs i h =
+    let past : length xs ≤ i / 8 = omega arith in
+    rw (List·getD-eq-default xs 0 past, zero-div)
+
+-- The bits of byte f are its digits.
+pub bit-byte : (xs : List ℕ) (f i : ℕ) → 8 * f ≤ i → i < 8 * f + 8 → bit xs i ≡ digit (getD xs f 0) (8 * f + 7 - i)
+unfolding bit
+bit-byte xs f i l h =
+    let q : i / 8 ≡ f = omega arith in
+    let r : 7 - i % 8 ≡ 8 * f + 7 - i = omega arith in
+    rw (q, r)
+
+-- Two lists of bytes of one length with the same bits are equal.
+pub bits-ext : {xs ys : List ℕ} → Bytes xs → Bytes ys → length xs ≡ length ys
+    → ((i : ℕ) → i < 8 * length xs → bit xs i ≡ bit ys i) → xs ≡ ys
+bits-ext {xs} {ys} bx by len same = ext-getD 0 xs ys len (λ f h. digits-ext 8 _ _ (bx .byte f) (by .byte f) (digit-same f h))
+  where
+    digit-same : (f : ℕ) → f < length xs → (j : ℕ) → j < 8 → digit (getD xs f 0) j ≡ digit (getD ys f 0) j
+    digit-same f h j l =
+        let i = 8 * f + (7 - j) in
+        let e : 8 * f + 7 - i ≡ j = omega arith in
+        let inside : i < 8 * f + 8 = omega arith in
+        rw (bit-byte xs f i (omega arith) inside, bit-byte ys f i (omega arith) inside, e) at (same i (omega arith))
+
+-- ---- fields
+
+-- A field of no bits is 0.
+pub field-zero : (xs : List ℕ) (at : ℕ) → field xs at 0 ≡ 0
+unfolding field
+field-zero xs at = refl
+
+-- One more bit doubles a field and adds the bit.
+pub field-suc : (xs : List ℕ) (at w : ℕ) → field xs at (w + 1) ≡ field xs at w * 2 + bit xs (at + w)
+unfolding field
+field-suc xs at w = rw add-one
+
+-- A field of w bits is below 2^w.
+pub field-lt : (xs : List ℕ) (at w : ℕ) → field xs at w < 2 ^ w
+unfolding field
+field-lt xs at zero = omega arith
+field-lt xs at (suc w) = rw pow-suc (omega (arith, field-lt xs at w, bit-lt xs (at + w)))
+
+-- A field of u + w bits is its first u and its last w.
+pub field-append : (xs : List ℕ) (at u w : ℕ) → field xs at (u + w) ≡ field xs at u * 2 ^ w + field xs (at + u) w
+unfolding field
+field-append xs at u zero = rw (add-zero u) (omega arith)
+field-append xs at u (suc w) =
+    let e : at + (u + w) ≡ at + u + w = omega arith in
+    rw (add-suc, field-append xs at u w, pow-suc, ← mul-assoc, e) (omega arith)
+
+-- Where two lists have the same bits, they have the same field.
+pub field-cong : (xs ys : List ℕ) (at w : ℕ) → ((j : ℕ) → j < w → bit xs (at + j) ≡ bit ys (at + j))
+    → field xs at w ≡ field ys at w
+unfolding field
+field-cong xs ys at zero same = refl
+field-cong xs ys at (suc w) same =
+    ap₂ (λ (hi lo : ℕ). hi * 2 + lo) (field-cong xs ys at w (λ j h. same j (omega arith))) (same w (omega arith))
+
+-- A field whose bits are the w lowest digits of v is v % 2^w.
+pub field-digits : (xs : List ℕ) (at w v : ℕ) → ((j : ℕ) → j < w → bit xs (at + j) ≡ digit v (w - suc j))
+    → field xs at w ≡ v % 2 ^ w
+unfolding field
+field-digits xs at zero v same = sym (mod-one v)
+field-digits xs at (suc w) v same =
+    let z : suc w - suc w ≡ 0 = omega arith in
+    let lowest : bit xs (at + w) ≡ v % 2 = rw (z, digit-zero) at (same w (omega arith)) in
+    rw (← add-one w, mod-pow-add v w 1) (ap₂ (λ (hi lo : ℕ). hi * 2 + lo) (field-digits xs at w (v / 2) halved) lowest)
+  where
+    halved : (j : ℕ) → j < w → bit xs (at + j) ≡ digit (v / 2) (w - suc j)
+    halved j h =
+        let e : suc w - suc j ≡ 1 + (w - suc j) = omega arith in
+        same j (omega arith) ∙ rw e (sym (digit-div v 1 (w - suc j)))
+
+-- ---- one bit is put
+
+-- A store of a byte leaves bytes.
+pub set-bytes : {xs : List ℕ} {x : ℕ} (f : ℕ) → Bytes xs → x < 256 → Bytes (set xs f x)
+set-bytes {xs} {x} f bx hx = record { byte = λ i. at i (ℕ-discrete i f) (decLt i (length xs)) }
+  where
+    at : (i : ℕ) → Dec (i ≡ f) → Dec (i < length xs) → getD (set xs f x) i 0 < 256
+    at i (no ne) d = rw (getD-set-other xs f i x 0 ne) (bx .byte i)
+    at i (yes e) (yes h) = rw (← e, getD-set-same xs i x 0 h) hx
+    at i (yes e) (no h) = rw (← e, set-out xs i x (omega arith)) (bx .byte i)
+
+-- All elements stay bytes.
+pub putBit-bytes : {xs : List ℕ} (i b : ℕ) → Bytes xs → b < 2 → Bytes (putBit xs i b)
+unfolding putBit
+putBit-bytes i b bx hb = set-bytes (i / 8) bx (withDigits-lt _ (7 - i % 8) 1 b 8 (bx .byte (i / 8)) hb (omega arith))
+
+-- The length stays.
+pub length-putBit : (xs : List ℕ) (i b : ℕ) → length (putBit xs i b) ≡ length xs
+unfolding putBit
+length-putBit xs i b = length-set xs _ _
+
+-- The bit is read back.
+pub bit-putBit-same : (xs : List ℕ) (i b : ℕ) → i < 8 * length xs → b < 2 → bit (putBit xs i b) i ≡ b
+unfolding bit putBit
+bit-putBit-same xs i b h hb =
+    let x = getD xs (i / 8) 0 in
+    let k = 7 - i % 8 in
+    let z : k - k ≡ 0 = omega arith in
+    rw (getD-set-same xs (i / 8) (withDigits x k 1 b) 0 (omega arith))
+    (digit-withDigits-inside x k 1 b k (omega arith) (omega arith) ∙ rw z (digit-zero b ∙ mod-eq-of-lt hb))
+
+-- Every other bit stays.
+pub bit-putBit-other : (xs : List ℕ) (i b j : ℕ) → i < 8 * length xs → b < 2 → j ≢ i → bit (putBit xs i b) j ≡ bit xs j
+unfolding bit putBit
+bit-putBit-other xs i b j h hb ne = by-byte (ℕ-discrete (j / 8) (i / 8)) (decLt (7 - j % 8) (7 - i % 8))
+  where
+    x : ℕ
+    x = getD xs (i / 8) 0
+
+    k : ℕ
+    k = 7 - i % 8
+
+    same : getD (set xs (i / 8) (withDigits x k 1 b)) (i / 8) 0 ≡ withDigits x k 1 b
+    same = getD-set-same xs (i / 8) (withDigits x k 1 b) 0 (omega arith)
+
+    by-byte : Dec (j / 8 ≡ i / 8) → Dec (7 - j % 8 < k) → bit (putBit xs i b) j ≡ bit xs j
+    by-byte (no other) d = rw (getD-set-other xs (i / 8) (j / 8) (withDigits x k 1 b) 0 other)
+    by-byte (yes e) (yes below) = rw (e, same) (digit-withDigits-below x k 1 b (7 - j % 8) below)
+    by-byte (yes e) (no above) = rw (e, same) (digit-withDigits-above x k 1 b (7 - j % 8) hb (omega arith))
+
+-- ---- a field is put
+
+-- All elements stay bytes.
+pub putField-bytes : {xs : List ℕ} (at w v : ℕ) → Bytes xs → Bytes (putField xs at w v)
+unfolding putField
+putField-bytes at zero v bx = bx
+putField-bytes at (suc w) v bx = putBit-bytes (at + w) (v % 2) (putField-bytes at w (v / 2) bx) (omega arith)
+
+-- The length stays.
+pub length-putField : (xs : List ℕ) (at w v : ℕ) → length (putField xs at w v) ≡ length xs
+unfolding putField
+length-putField xs at zero v = refl
+length-putField xs at (suc w) v = length-putBit _ _ _ ∙ length-putField xs at w (v / 2)
+
+-- The bits outside of the field stay.
+pub bit-putField-outside : (xs : List ℕ) (at w v i : ℕ) → at + w ≤ 8 * length xs → (i < at) ⊎ (at + w ≤ i)
+    → bit (putField xs at w v) i ≡ bit xs i
+unfolding putField
+bit-putField-outside xs at zero v i fits out = refl
+bit-putField-outside xs at (suc w) v i fits out =
+    let last : at + w < 8 * length (putField xs at w (v / 2)) = rw length-putField (omega arith) in
+    let other : i ≢ at + w = ⊎-elim (λ h. omega arith) (λ h. omega arith) out in
+    bit-putBit-other (putField xs at w (v / 2)) (at + w) (v % 2) i last (omega arith) other
+    ∙ bit-putField-outside xs at w (v / 2) i (omega arith) (⊎-elim inl (λ h. inr (omega arith)) out)
+
+-- The bits of the field are the digits of v.
+pub bit-putField-inside : (xs : List ℕ) (at w v i : ℕ) → at + w ≤ 8 * length xs → at ≤ i → i < at + w
+    → bit (putField xs at w v) i ≡ digit v (at + w - suc i)
+unfolding putField
+bit-putField-inside xs at zero v i fits l h = absurd (omega arith)
+bit-putField-inside xs at (suc w) v i fits l h = by-place (ℕ-discrete i (at + w)) (bit-putField-inside xs at w (v / 2) i (omega arith) l)
+  where
+    ys : List ℕ
+    ys = putField xs at w (v / 2)
+
+    last : at + w < 8 * length ys
+    last = rw length-putField (omega arith)
+
+    by-place : Dec (i ≡ at + w) → (i < at + w → bit ys i ≡ digit (v / 2) (at + w - suc i))
+        → bit (putBit ys (at + w) (v % 2)) i ≡ digit v (at + suc w - suc i)
+    by-place (yes e) before =
+        let z : at + suc w - suc (at + w) ≡ 0 = omega arith in
+        rw (e, z, digit-zero) (bit-putBit-same ys (at + w) (v % 2) last (omega arith))
+    by-place (no ne) before =
+        let e : at + suc w - suc i ≡ 1 + (at + w - suc i) = omega arith in
+        bit-putBit-other ys (at + w) (v % 2) i last (omega arith) ne ∙ before (omega arith) ∙ rw e (digit-div v 1 (at + w - suc i))
+
+-- The field is read back.
+pub field-putField : (xs : List ℕ) (at w v : ℕ) → at + w ≤ 8 * length xs → v < 2 ^ w → field (putField xs at w v) at w ≡ v
+field-putField xs at w v fits small = field-digits (putField xs at w v) at w v digits ∙ mod-eq-of-lt small
+  where
+    digits : (j : ℕ) → j < w → bit (putField xs at w v) (at + j) ≡ digit v (w - suc j)
+    digits j h =
+        let e : at + w - suc (at + j) ≡ w - suc j = omega arith in
+        rw e at (bit-putField-inside xs at w v (at + j) fits (omega arith) (omega arith))
+
+-- A field that does not overlap the one that is put stays.
+pub field-putField-outside : (xs : List ℕ) (at w v at′ w′ : ℕ) → at + w ≤ 8 * length xs → (at′ + w′ ≤ at) ⊎ (at + w ≤ at′)
+    → field (putField xs at w v) at′ w′ ≡ field xs at′ w′
+field-putField-outside xs at w v at′ w′ fits out =
+    field-cong (putField xs at w v) xs at′ w′
+    (λ j h. bit-putField-outside xs at w v (at′ + j) fits (⊎-elim (λ l. inl (omega arith)) (λ l. inr (omega arith)) out))

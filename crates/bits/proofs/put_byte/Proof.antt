@@ -1,0 +1,23 @@
+-- `bits::put_byte` meets its contract: past the end `set` changes nothing either.
+-- Assumes nothing.
+use borrow.Author.Needs.{needs}
+use denote.Ref.{now}
+use lib.Seq.{set-out}
+use mathlib.Core.Path.{sym}
+use Rattle.bits.proofs.put_byte.Statement.{statement}
+use Rattle.bits.proofs.put_byte.Tie as tie
+
+slice-write-bytes : tie.Need-slice-write-bytes
+slice-write-bytes c = search needs
+
+same-length : tie.Need-same-length
+same-length c = search needs
+
+returns : tie.Need-returns
+returns c = search needs
+
+returns-2 : tie.Need-returns-2
+returns-2 c = let a = c .before .args in sym (set-out (now (a .bytes)) (a .index) (a .value) (c .if1 .left))
+
+pub put-byte-spec : {M : Type 1} → statement M
+put-byte-spec = tie.close (tie.spec slice-write-bytes same-length returns returns-2)

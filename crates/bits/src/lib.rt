@@ -1,0 +1,82 @@
+// Fields of bits in a slice of bytes, most significant bit first. At most 7 bits stand before a field in its first byte, so a
+// field of at most 16 bits lies in three bytes. The functions take these three bytes as one number of 24 binary digits, the
+// window, and shift and mask it.
+ghost use mathlib.Core.Path.{_≡_};
+ghost use Prim.Native.Nat.{_+_, _*_, _^_, _<_, _≤_};
+ghost use lib.ListN.{length, getD, set};
+ghost use Rattle.bits.specs.Bits.{withDigits, field, putField};
+ghost use Rattle.bits.specs.Window.{windowOf, putWindow};
+
+// Byte `index`; 0 past the end.
+fn byte_at(bytes: &[u8], index: usize) -> u32
+    ensures { λ r. ⌜ (r ≡ getD (now (bytes .entry)) index 0) × (r < 256) ⌝ }
+{
+    if index < bytes.len() {
+        bytes[index] as u32
+    } else {
+        0
+    }
+}
+
+// The three bytes from byte `first` as one number.
+fn window_at(bytes: &[u8], first: usize) -> u32
+    requires { ⌜ first < 2 ^ 61 ⌝ }
+    ensures { λ r. ⌜ (r ≡ windowOf (now (bytes .entry)) first) × (r < 2 ^ 24) ⌝ }
+{
+    (byte_at(bytes, first) * 256 + byte_at(bytes, first + 1)) * 256 + byte_at(bytes, first + 2)
+}
+
+// The number in the `width` bits from bit `at`; a bit past the end is 0.
+// Only our own crates call it, so it may require a width that fits the result.
+pub fn field_at(bytes: &[u8], at: usize, width: usize) -> u16
+    requires { ⌜ width ≤ 16 ⌝ }
+    ensures { λ r. ⌜ r ≡ field (now (bytes .entry)) at width ⌝ }
+{
+    let shift = 24 - at % 8 - width;
+    ((window_at(bytes, at / 8) >> shift) % (1u32 << width)) as u16
+}
+
+// `old` with `value` for its `width` binary digits above the `below` lowest.
+fn with_digits(old: u32, below: usize, width: usize, value: u32) -> u32
+    requires { ⌜ old < 2 ^ 24 ⌝ }
+    requires { ⌜ below + width ≤ 24 ⌝ }
+    requires { ⌜ value < 2 ^ width ⌝ }
+    ensures { λ r. ⌜ (r ≡ withDigits old below width value) × (r < 2 ^ 24) ⌝ }
+{
+    let above = old >> (width + below);
+    (((above << width) + value) << below) + old % (1u32 << below)
+}
+
+// Byte `index` becomes `value`; past the end nothing changes.
+fn put_byte(bytes: &mut [u8], index: usize, value: u8)
+    ensures { λ _. ⌜ now (bytes .exit) ≡ set (now (bytes .entry)) index value ⌝ }
+{
+    if index < bytes.len() {
+        bytes[index] = value;
+    }
+}
+
+// The three bytes from byte `first` become those of `value`.
+fn put_window(bytes: &mut [u8], first: usize, value: u32)
+    requires { ⌜ first < 2 ^ 61 ⌝ }
+    requires { ⌜ value < 2 ^ 24 ⌝ }
+    ensures { λ _. ⌜ now (bytes .exit) ≡ putWindow (now (bytes .entry)) first value ⌝ }
+{
+    put_byte(bytes, first, (value >> 16) as u8);
+    put_byte(bytes, first + 1, ((value >> 8) % 256) as u8);
+    put_byte(bytes, first + 2, (value % 256) as u8);
+}
+
+// The `width` bits from bit `at` become those of `value`, and no other bit changes.
+// Only our own crates call it, so it may require that the field lies in the slice and that the value fits the field.
+pub fn put_field(bytes: &mut [u8], at: usize, width: usize, value: u16)
+    requires { ⌜ width ≤ 16 ⌝ }
+    requires { ⌜ at + width ≤ 8 * length (now bytes) ⌝ }
+    requires { ⌜ value < 2 ^ width ⌝ }
+    ensures { λ _. ⌜ now (bytes .exit) ≡ putField (now (bytes .entry)) at width value ⌝ }
+{
+    let first = at / 8;
+    let below = 24 - at % 8 - width;
+    let old = window_at(bytes, first);
+    put_window(bytes, first, with_digits(old, below, width, value as u32));
+}
