@@ -8,7 +8,7 @@ use native.Mathlib.Numerals.{add-one}
 use native.Mathlib.Decide.{decLt}
 use native.Mathlib.Nat.{add-zero, add-suc}
 use lib.ListN.{length, take, drop, set, getD, length-append, length-drop, List·getD-append, List·getD-eq-default}
-use lib.Seq.{drop-cons, set-at, append-snoc, getD-at, getD-drop, getD-append-add, ext-getD, take-at, drop-at}
+use lib.Seq.{getD-set-same, getD-set-other, drop-cons, set-at, append-snoc, getD-at, getD-drop, getD-append-add, ext-getD, take-at, drop-at}
 use Rattle.laws.specs.Tabulate.{tabulate, overwrite}
 
 module _ {A : Type 0} where
@@ -99,3 +99,11 @@ module _ {A : Type 0} where
       rw (add-one, drop-cons xs n d)
       (set-at (tabulate n f) (getD xs n d) (drop (suc n) xs) (f n) n (length-tabulate n f)
       ∙ sym (append-snoc (tabulate n f) (f n) (drop (suc n) xs)))
+
+  -- one turn of a loop that stores f i at place g i, where the places differ
+  pub stored-turn : (xs : List A) (g : ℕ → ℕ) (f : ℕ → A) (i : ℕ) (v d : A) → g i < length xs → ((j : ℕ) → j < i → g j ≡ g i → ⊥) → v ≡ f i
+      → ((j : ℕ) → j < i → getD xs (g j) d ≡ f j) → (j : ℕ) → j < i + 1 → getD (set xs (g i) v) (g j) d ≡ f j
+  stored-turn xs g f i v d here apart e before j l = elim (decLt j i) [
+    | yes m ↦ getD-set-other xs (g i) (g j) v d (apart j m) ∙ before j m
+    | no m ↦ let q : j ≡ i = omega arith in rw q (getD-set-same xs (g i) v d here ∙ e)
+  ]

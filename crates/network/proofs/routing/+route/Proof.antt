@@ -1,0 +1,163 @@
+-- `routing::route` meets its contract. Its measure is the width, and each call halves it: `parts` takes the network apart, and
+-- `routed-more` puts what the two inner networks route together.
+use Prim.Native.Nat.{ℕ, _<_}
+use mathlib.Core.Path.{sym, _∙_}
+use native.Mathlib.Omega.{arith}
+use borrow.Author.Needs.{needs}
+use borrow.Fn.Kinds.{In}
+use borrow.Fn.PlainCycle.{Measures, is, falls, and}
+use lib.ListN.{length}
+use Rattle.network.proofs.Routes.{RouteSplit, split, upper-sized, lower-sized, back-long, routed-one, routed-more}
+use Rattle.network.proofs.routing.route.Reads as route
+use Rattle.network.proofs.routing.route.Kinds as route-kinds
+use Rattle.network.proofs.routing.+route.Lts-route as route-lts
+use Rattle.network.proofs.routing.given.Reads as given-reads
+use Rattle.network.proofs.routing.taken.Reads as taken-reads
+use Rattle.network.proofs.routing.+route.{statement}
+use Rattle.network.proofs.routing.+route.Tie.{close}
+
+abbrev μ-route : Measures 2 route-kinds.ps ℕ
+μ-route κs a = length (a .1 .0 .now)
+
+abbrev route-at : ℕ → In 2 route-kinds.ps
+route-at t = and 2 route-kinds.ps (is 2 route-kinds.ps μ-route t) route.Pre
+
+abbrev route-below : ℕ → In 2 route-kinds.ps
+route-below t = and 2 route-kinds.ps (falls 2 route-kinds.ps _<_ μ-route t) route.Pre
+
+abbrev claims : ℕ → route-lts.Claims
+claims t = (taken-reads.Asked, taken-reads.Learnt, route-below t, route.Post, given-reads.Asked, given-reads.Learnt)
+
+module _ (t : ℕ) where
+  -- the network taken apart, past the test for one line
+  parts : (c : route-lts.Else1 (claims t) (route-at t) route.Post)
+      → let s = c .before .before .before in RouteSplit (s .args .bits .now) (s .args .lines .now) (s .pre .1 .0 .0)
+  parts c = let s = c .before .before .before in split _ _ _ (s .pre .1 .0 .1) (s .pre .1 .1) (c .if1 .left)
+
+  returns : route-lts.Need-returns (claims t) (route-at t) route.Post
+  returns c = λ d s. routed-one d _ _ (c .if1 .taken) (s .0)
+
+  sub-inner : route-lts.Need-sub-inner (claims t) (route-at t) route.Post
+  sub-inner c = omega (arith, parts c)
+
+  sub-inner-2 : route-lts.Need-sub-inner-2 (claims t) (route-at t) route.Post
+  sub-inner-2 c = omega (arith, parts c)
+
+  taken-requires : route-lts.Need-taken-requires (claims t) (route-at t) route.Post
+  taken-requires c κs = search needs
+
+  taken-requires-2 : route-lts.Need-taken-requires-2 (claims t) (route-at t) route.Post
+  taken-requires-2 c κs = search needs
+
+  add-middle : route-lts.Need-add-middle (claims t) (route-at t) route.Post
+  add-middle c = search needs
+
+  add-outputs : route-lts.Need-add-outputs (claims t) (route-at t) route.Post
+  add-outputs c = search needs
+
+  add-outputs-2 : route-lts.Need-add-outputs-2 (claims t) (route-at t) route.Post
+  add-outputs-2 c = search needs
+
+  sub-route : route-lts.Need-sub-route (claims t) (route-at t) route.Post
+  sub-route c = search needs
+
+  part-route-start : route-lts.Need-part-route-start (claims t) (route-at t) route.Post
+  part-route-start c = search needs
+
+  part-route-end : route-lts.Need-part-route-end (claims t) (route-at t) route.Post
+  part-route-end c = omega (arith, parts (c .before .before .before .before))
+
+  array-borrow-prefix-upper : route-lts.Need-array-borrow-prefix-upper (claims t) (route-at t) route.Post
+  array-borrow-prefix-upper c = search needs
+
+  slice-aggregate-route : route-lts.Need-slice-aggregate-route (claims t) (route-at t) route.Post
+  slice-aggregate-route c =
+      let p = parts (c .before .before .before .before .before .before) in
+      p .sized .0 ∙ sym (upper-sized p (c .before .before .before .before .taken .ensures) .0)
+
+  route-requires : route-lts.Need-route-requires (claims t) (route-at t) route.Post
+  route-requires c κs =
+      let wider = c .before .before .before .before .before .before in
+      let p = parts wider in
+      let z = upper-sized p (c .before .before .before .before .taken .ensures) in
+      (omega (arith, z .0, wider .before .before .before .pre .0), ((p .e, z), omega (arith, z .0)))
+
+  sub-route-2 : route-lts.Need-sub-route-2 (claims t) (route-at t) route.Post
+  sub-route-2 c = search needs
+
+  part-route-start-2 : route-lts.Need-part-route-start-2 (claims t) (route-at t) route.Post
+  part-route-start-2 c = search needs
+
+  part-route-end-2 : route-lts.Need-part-route-end-2 (claims t) (route-at t) route.Post
+  part-route-end-2 c = omega (arith, parts (c .before .before .before .before .before .before .before .before))
+
+  array-borrow-prefix-lower : route-lts.Need-array-borrow-prefix-lower (claims t) (route-at t) route.Post
+  array-borrow-prefix-lower c = search needs
+
+  slice-aggregate-route-2 : route-lts.Need-slice-aggregate-route-2 (claims t) (route-at t) route.Post
+  slice-aggregate-route-2 c =
+      let p = parts (c .before .before .before .before .before .before .before .before .before .before) in
+      p .sized .0 ∙ sym (lower-sized p (c .before .before .before .before .before .before .taken2 .ensures) .0)
+
+  route-requires-2 : route-lts.Need-route-requires-2 (claims t) (route-at t) route.Post
+  route-requires-2 c κs =
+      let wider = c .before .before .before .before .before .before .before .before .before .before in
+      let p = parts wider in
+      let z = lower-sized p (c .before .before .before .before .before .before .taken2 .ensures) in
+      (omega (arith, z .0, wider .before .before .before .pre .0), ((p .e, z), omega (arith, z .0)))
+
+  given-requires : route-lts.Need-given-requires (claims t) (route-at t) route.Post
+  given-requires c κs =
+      let second = c .before .before .before .before in
+      let first = second .before .before .before .before in
+      let lower = first .before .before .before in
+      let upper = lower .before .before in
+      let wider = upper .before .before in
+      let p = parts wider in (
+        wider .before .before .before .pre .1 .1,
+        omega arith,
+        omega arith,
+        back-long p (first .route .last .1 .0) (upper .taken .ensures) (first .route .kept .1 .0),
+        back-long p (second .route2 .last .1 .0) (lower .taken2 .ensures) (second .route2 .kept .1 .0),
+      )
+
+  same-length : route-lts.Need-same-length (claims t) (route-at t) route.Post
+  same-length c = search needs
+
+  returns-2 : route-lts.Need-returns-2 (claims t) (route-at t) route.Post
+  returns-2 c =
+      let second = c .before .before .before .before .before .before .before in
+      let first = second .before .before .before .before in
+      let lower = first .before .before .before in
+      let upper = lower .before .before in
+      let wider = upper .before .before in
+      λ d s. routed-more (split _ _ d s (wider .before .before .before .pre .1 .1) (wider .if1 .left)) (upper .taken .ensures) (lower .taken2 .ensures)
+      (first .route .ensures) (second .route2 .ensures) (c .before .before .given .ensures) (c .before .before .given .kept .1 .1 .1 .1 .0)
+
+pub +route-spec : {M : Type 1} → statement M
++route-spec = close μ-route λ t. route-lts.spec (claims t)
+    (route-at t)
+    route.Post
+    (returns t)
+    (sub-inner t)
+    (sub-inner-2 t)
+    (taken-requires t)
+    (taken-requires-2 t)
+    (add-middle t)
+    (add-outputs t)
+    (add-outputs-2 t)
+    (sub-route t)
+    (part-route-start t)
+    (part-route-end t)
+    (array-borrow-prefix-upper t)
+    (slice-aggregate-route t)
+    (route-requires t)
+    (sub-route-2 t)
+    (part-route-start-2 t)
+    (part-route-end-2 t)
+    (array-borrow-prefix-lower t)
+    (slice-aggregate-route-2 t)
+    (route-requires-2 t)
+    (given-requires t)
+    (same-length t)
+    (returns-2 t)

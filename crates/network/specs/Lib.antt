@@ -1,0 +1,6 @@
+pub mod Network
+pub mod Rule
+pub mod Setting
+pub mod Carried
+pub mod Calls
+pub mod Steps
