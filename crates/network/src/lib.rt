@@ -4,7 +4,10 @@ mod routing;
 mod setting;
 mod widths;
 
-pub use following::{follow, Followed};
+pub use following::Followed;
+pub use following::follow;
 pub use routing::route;
-pub use setting::{set, set_bits, Setting};
+pub use setting::Setting;
+pub use setting::set;
+pub use setting::set_bits;
 pub use widths::bit_count;

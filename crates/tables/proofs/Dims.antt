@@ -1,0 +1,174 @@
+-- Valid dimensions, and the numbers that they determine: c times w is n, 2 ^ a is at least c and a at most 12, the network has w lines or
+-- more and at most 64, and the whole set is far from any overflow. `logUp` is the first power of two that is large enough, found by search.
+use Prim.Native.Nat.{ℕ, zero, suc, _+_, _*_, _/_, _%_, _^_, _<_, _≤_}
+use mathlib.Core.Path.{_≡_, refl, sym, ap, _∙_}
+use native.Mathlib.Omega.{arith}
+use native.Mathlib.Decide.{decLe, ℕ-discrete}
+use native.Mathlib.Nat.{div-add-mod', div-le-self, mul-le-mul, mul-le-mul-right, pow-suc, pow-le-pow-right, zero-mul, suc-mul, div-lt-iff-lt-mul}
+use lib.Arith.{digits-lt, digits-div, digits-mod}
+use lib.Pow.{pow-pos}
+use Rattle.laws.proofs.Choices.{ifLe-cases}
+use Rattle.network.specs.Network.{bitCount}
+use Rattle.network.proofs.Counts.{bitCount-mono}
+use Rattle.tables.specs.Terms.{logFrom, logUp, cycles, addressBits, depth, switchBits, addressRow, lineBits, headerBits, fileLength}
+use Rattle.tables.specs.Format.{lineAt}
+pub use Rattle.tables.specs.Terms.{Dims}
+
+-- ---- the first power of two that is large enough
+
+pow-above : (x : ℕ) → x ≤ 2 ^ x
+pow-above zero = omega arith
+pow-above (suc x) = rw pow-suc (omega (arith, pow-above x, pow-pos x))
+
+-- the search reaches x, where its last candidate does
+logFrom-reaches : (x k e : ℕ) → x ≤ 2 ^ (e + k) → x ≤ 2 ^ logFrom x k e
+unfolding logFrom
+logFrom-reaches x zero e h = let z : e + 0 ≡ e = omega arith in rw z at h
+logFrom-reaches x (suc k) e h =
+    ifLe-cases (λ (r : ℕ). x ≤ 2 ^ r) x (2 ^ e) e (logFrom x k (e + 1)) (λ l. l)
+    (λ l. let z : e + suc k ≡ e + 1 + k = omega arith in logFrom-reaches x k (e + 1) (rw z at h))
+
+-- it stops at the first that does
+logFrom-least : (x k e m : ℕ) → e ≤ m → x ≤ 2 ^ m → logFrom x k e ≤ m
+unfolding logFrom
+logFrom-least x zero e m l h = l
+logFrom-least x (suc k) e m l h =
+    ifLe-cases (λ (r : ℕ). r ≤ m) x (2 ^ e) e (logFrom x k (e + 1)) (λ _. l) λ s.
+    let ne : e ≡ m → ⊥ = λ q. omega (arith, ap (λ (z : ℕ). 2 ^ z) q) in
+    logFrom-least x k (e + 1) m (omega arith) h
+
+pub logUp-reaches : (x : ℕ) → x ≤ 2 ^ logUp x
+unfolding logUp
+logUp-reaches x = let z : 0 + x ≡ x = omega arith in logFrom-reaches x x 0 (rw z (pow-above x))
+
+pub logUp-least : (x e : ℕ) → x ≤ 2 ^ e → logUp x ≤ e
+unfolding logUp
+logUp-least x e h = logFrom-least x x 0 e (omega arith) h
+
+-- a power that does not reach x comes before it: one turn of a loop that looks for the power
+pub logUp-above : (x e : ℕ) → 2 ^ e < x → e < logUp x
+logUp-above x e low = elim (decLe (logUp x) e) [
+  | yes l ↦ absurd (omega (arith, logUp-reaches x, pow-le-pow-right {n = 2} (omega arith) l))
+  | no l ↦ omega arith
+]
+
+pub logUp-exact : (x e : ℕ) → 2 ^ e < x → x ≤ 2 ^ suc e → logUp x ≡ suc e
+logUp-exact x e low h = omega (arith, logUp-above x e low, logUp-least x (suc e) h)
+
+pub logUp-one : logUp 1 ≡ 0
+logUp-one = omega (arith, logUp-least 1 0 (omega arith))
+
+-- the power is less than twice the number
+pub logUp-tight : (x : ℕ) → 0 < x → 2 ^ logUp x < 2 * x
+logUp-tight x l = by (logUp x) refl
+  where
+    by : (e : ℕ) → logUp x ≡ e → 2 ^ e < 2 * x
+    by zero q = omega arith
+    by (suc e) q = elim (decLe x (2 ^ e)) [
+      | yes m ↦ absurd (omega (arith, logUp-least x e m))
+      | no m ↦ rw pow-suc (omega arith)
+    ]
+
+-- ---- what valid dimensions determine
+
+-- a network of at most 64 lines
+pub depth-reaches : (w : ℕ) → w ≤ 2 ^ depth w
+unfolding depth
+depth-reaches w = logUp-reaches w
+
+module _ {n w : ℕ} (D : Dims n w) where
+  pub cycles-mul : cycles n w * w ≡ n
+  unfolding cycles
+  cycles-mul = omega (arith, div-add-mod' n w)
+
+  pub cycles-positive : 0 < cycles n w
+  cycles-positive = elim (ℕ-discrete (cycles n w) 0) [
+    | yes e ↦ absurd (omega (arith, cycles-mul, ap (λ (z : ℕ). z * w) e, zero-mul w))
+    | no ne ↦ omega arith
+  ]
+
+  pub cycles-few : cycles n w ≤ 4096
+  unfolding cycles
+  cycles-few = omega (arith, div-le-self n w)
+
+  pub cycles-reached : cycles n w ≤ 2 ^ addressBits n w
+  unfolding addressBits
+  cycles-reached = logUp-reaches (cycles n w)
+
+  pub addressBits-few : addressBits n w ≤ 12
+  unfolding addressBits
+  addressBits-few = logUp-least (cycles n w) 12 (omega (arith, cycles-few))
+
+  -- where a frame is one cycle, addresses have no bits
+  pub addressBits-none : cycles n w ≡ 1 → addressBits n w ≡ 0
+  unfolding addressBits
+  addressBits-none e = ap logUp e ∙ logUp-one
+
+  pub depth-few : depth w ≤ 6
+  unfolding depth
+  depth-few = logUp-least w 6 (omega arith)
+
+  pub lines-few : 2 ^ depth w ≤ 64
+  lines-few = pow-le-pow-right {n = 2} (omega arith) depth-few
+
+  pub switchBits-few : switchBits w ≤ 321
+  unfolding switchBits bitCount
+  switchBits-few = omega (arith, bitCount-mono (depth w) 6 depth-few)
+
+  pub addressRow-few : addressRow n w ≤ 768
+  unfolding addressRow
+  addressRow-few = omega (arith, mul-le-mul (D .narrow) addressBits-few)
+
+  pub lineBits-few : lineBits n w ≤ 1857
+  unfolding lineBits
+  lineBits-few = omega (arith, addressRow-few, switchBits-few)
+
+  -- the address of a word of the frame
+  pub address-below : (i : ℕ) → i < n → i / w < cycles n w
+  address-below i l = div-lt-iff-lt-mul (D .wide) .1 (omega (arith, cycles-mul))
+
+  -- the word at an address of a bank
+  pub word-below : (r b : ℕ) → r < cycles n w → b < w → r * w + b < n
+  word-below r b l m = omega (arith, digits-lt l m, cycles-mul)
+
+-- a word is known by its address and its bank
+pub word-injective : (w r s b d : ℕ) → b < w → d < w → r * w + b ≡ s * w + d → (r ≡ s) × (b ≡ d)
+word-injective w r s b d l m e =
+    (sym (digits-div r l) ∙ ap (λ (z : ℕ). z / w) e ∙ digits-div s m, sym (digits-mod r l) ∙ ap (λ (z : ℕ). z % w) e ∙ digits-mod s m)
+
+-- ---- where the lines stand, and the addresses of a line
+
+pub addressRow-holds : (n w b : ℕ) → b < w → b * addressBits n w + addressBits n w ≤ addressRow n w
+unfolding addressRow
+addressRow-holds n w b l = omega (arith, suc-mul b (addressBits n w), mul-le-mul-right {m = suc b} {n = w} (addressBits n w) l)
+
+pub lineAt-zero : (n w : ℕ) → lineAt n w 0 ≡ 24
+unfolding lineAt headerBits
+lineAt-zero n w = omega (arith, zero-mul (lineBits n w))
+
+pub lineAt-suc : (n w t : ℕ) → lineAt n w (t + 1) ≡ lineAt n w t + lineBits n w
+unfolding lineAt
+lineAt-suc n w t = let e : t + 1 ≡ suc t = omega arith in rw e (omega (arith, suc-mul t (lineBits n w)))
+
+-- line t ends before line s starts, where t < s
+pub lineAt-order : (n w t s : ℕ) → t < s → lineAt n w t + lineBits n w ≤ lineAt n w s
+unfolding lineAt
+lineAt-order n w t s l = omega (arith, suc-mul t (lineBits n w), mul-le-mul-right {m = suc t} {n = s} (lineBits n w) l)
+
+-- the whole set is far from any overflow
+pub lineAt-few : {n w : ℕ} → Dims n w → (t : ℕ) → t ≤ cycles n w → lineAt n w t ≤ 2 ^ 24
+unfolding lineAt headerBits
+lineAt-few D t l = omega (arith, cycles-few D, mul-le-mul {n₁ = t} {n₂ = 4096} (omega (arith, cycles-few D)) (lineBits-few D))
+
+-- the file's last byte holds the last line's end, or what is filled up behind it
+pub fileLength-reaches : (n w : ℕ) → lineAt n w (cycles n w) ≤ 8 * fileLength n w
+unfolding fileLength lineAt headerBits
+fileLength-reaches n w = omega arith
+
+pub fileLength-tight : (n w : ℕ) → 8 * fileLength n w < lineAt n w (cycles n w) + 8
+unfolding fileLength lineAt headerBits
+fileLength-tight n w = omega arith
+
+pub fileLength-header : (n w : ℕ) → 3 ≤ fileLength n w
+unfolding fileLength
+fileLength-header n w = omega arith

@@ -1,0 +1,80 @@
+-- The loops of reading: the search for a faulty address, the marks of one line, and the images that are written.
+use Prim.Native.Nat.{ℕ, _+_, _*_, _<_, _≤_}
+use mathlib.Core.Path.{_≡_, refl, sym, ap, _∙_}
+use mathlib.Core.Bool.{Bool, true, false, not}
+use mathlib.Core.List.{List}
+use native.Mathlib.Omega.{arith}
+use native.Mathlib.Decide.{ℕ-discrete}
+use lib.Dec.{leb, eqb}
+use lib.ListN.{length, getD, set, length-set}
+use lib.Seq.{getD-set-same, getD-set-other}
+use borrow.Author.Tests.{le-leb, lt-leb, eq-eqb, ne-eqb}
+use Rattle.laws.specs.Choice.{choose}
+use Rattle.laws.specs.Any.{any}
+use Rattle.laws.proofs.Choices.{choose-yes, choose-no}
+use Rattle.laws.proofs.Anys.{any-some, any-none}
+use Rattle.laws.proofs.Tabulates.{stored-turn}
+use Rattle.tables.specs.Gathering.{faulty, wordAt, placeAt, Markable, Marked}
+
+-- the test of bank b
+abbrev pub faultAt : List ℕ → List ℕ → ℕ → ℕ → ℕ → Bool
+faultAt addresses marks w c b = choose (leb c (getD addresses b 0)) true (not (eqb (getD marks (getD addresses b 0 * w + b) 0) 65535))
+
+-- no bank below b is faulty
+pub record Sound (addresses marks : List ℕ) (w c b : ℕ) : Type 0 where
+  pub upto : b ≤ w
+  pub none : (i : ℕ) → i < b → faultAt addresses marks w c i ≡ false
+
+module _ (addresses marks : List ℕ) (w c : ℕ) where
+  pub sound-none : Sound addresses marks w c 0
+  sound-none = record { upto = omega arith; none = λ i l. absurd (omega arith) }
+
+  pub fault-outside : (b : ℕ) → b < w → c ≤ getD addresses b 0 → true ≡ faulty addresses marks w c
+  unfolding faulty
+  fault-outside b l h = sym (any-some w (faultAt addresses marks w c) b l (sym (choose-yes (leb c (getD addresses b 0)) true true _ (le-leb c (getD addresses b 0) h) refl)))
+
+  pub fault-marked : (b : ℕ) → b < w → getD addresses b 0 < c → (getD marks (getD addresses b 0 * w + b) 0 ≡ 65535 → ⊥) → true ≡ faulty addresses marks w c
+  unfolding faulty
+  fault-marked b l h ne =
+      sym (any-some w (faultAt addresses marks w c) b l (sym (choose-no (leb c (getD addresses b 0)) true true _ (lt-leb c (getD addresses b 0) h)
+      (sym (ap not (ne-eqb (getD marks (getD addresses b 0 * w + b) 0) 65535 ne))))))
+
+  pub sound-more : {b : ℕ} → Sound addresses marks w c b → b < w → getD addresses b 0 < c → getD marks (getD addresses b 0 * w + b) 0 ≡ 65535
+      → Sound addresses marks w c (b + 1)
+  sound-more {b} S l h e = record {
+    upto = omega arith;
+    none = λ i m. elim (ℕ-discrete i b) [
+      | yes q ↦ rw q (sym (choose-no (leb c (getD addresses b 0)) false true _ (lt-leb c (getD addresses b 0) h) (sym (ap not (eq-eqb (getD marks (getD addresses b 0 * w + b) 0) 65535 e)))))
+      | no q ↦ S .none i (omega arith)
+    ];
+  }
+
+  pub sound-all : {b : ℕ} → Sound addresses marks w c b → w ≤ b → false ≡ faulty addresses marks w c
+  unfolding faulty
+  sound-all S l = sym (any-none w (faultAt addresses marks w c) (λ i m. S .none i (omega arith)))
+
+-- before the first bank
+pub marked-none : (reads sources writes : List ℕ) (w : ℕ) (places words : List ℕ) → Marked reads sources writes w 0 places words places words
+marked-none reads sources writes w places words = record {
+  long = refl;
+  long′ = refl;
+  placed = λ k l. absurd (omega arith);
+  worded = λ k l. absurd (omega arith);
+  kept = λ i f. refl;
+  kept′ = λ i f. refl;
+}
+
+-- one bank more
+pub marked-more : {reads sources writes places₀ words₀ places words : List ℕ} {w k : ℕ} → Markable reads sources writes places₀ words₀ w → k < w
+    → Marked reads sources writes w k places₀ words₀ places words
+    → Marked reads sources writes w (k + 1) places₀ words₀ (set places (wordAt reads sources w k) (placeAt writes w k)) (set words (placeAt writes w k) (wordAt reads sources w k))
+marked-more {reads} {sources} {writes} {places₀} {words₀} {places} {words} {w} {k} A l M = record {
+  long = length-set places _ _ ∙ M .long;
+  long′ = length-set words _ _ ∙ M .long′;
+  placed = stored-turn places (wordAt reads sources w) (placeAt writes w) k (placeAt writes w k) 0 (omega (arith, A .words-below k l, A .places-long, M .long))
+      (λ j m e. omega (arith, A .apart j k (omega arith) l e)) refl (M .placed);
+  worded = stored-turn words (placeAt writes w) (wordAt reads sources w) k (wordAt reads sources w k) 0 (omega (arith, A .places-below k l, A .words-long, M .long′))
+      (λ j m e. omega (arith, A .apart′ j k (omega arith) l e)) refl (M .worded);
+  kept = λ i f. getD-set-other places (wordAt reads sources w k) i _ 0 (λ e. f k (omega arith) (sym e)) ∙ M .kept i (λ j m. f j (omega arith));
+  kept′ = λ i f. getD-set-other words (placeAt writes w k) i _ 0 (λ e. f k (omega arith) (sym e)) ∙ M .kept′ i (λ j m. f j (omega arith));
+}

@@ -1,0 +1,115 @@
+-- What opening a set works out, as the code does: the least power of two that is large enough, found by doubling; a shape, made of its
+-- parts and read part by part; and the tests of a header that was read.
+use Prim.Native.Nat.{ℕ, _+_, _*_, _/_, _%_, _^_, _<_, _≤_}
+use mathlib.Core.Path.{_≡_, refl, ap, _∙_}
+use mathlib.Core.List.{List}
+use native.Mathlib.Omega.{arith}
+use native.Mathlib.Numerals.{add-one}
+use native.Mathlib.Nat.{one-mul, pow-suc}
+use lib.Dec.{lit<}
+use lib.ListN.{length}
+use lib.Pow.{pow-pos, shl-exact}
+use Rattle.laws.specs.Choice.{ifLt, ifEq}
+use Rattle.laws.proofs.Choices.{ifLt-no}
+use Rattle.bits.specs.Bits.{field}
+use Rattle.refusal.specs.declared.Refusal.the-variants.{Header}
+use Rattle.network.specs.Network.{bitCount}
+use Rattle.tables.specs.Terms.{Dims, logUp, cycles, addressBits, depth, switchBits, addressRow, lineBits, headerBits, fileLength}
+use Rattle.tables.specs.Format.{headerWords, headerWidth, headerZeros, lineAt, shapeOf, headerTest, lengthTest, openOf}
+use Rattle.tables.specs.declared.Shape.{Shape}
+use Rattle.tables.specs.declared.Opened.{Opened}
+use Rattle.tables.specs.declared.Opened.the-variants.{Refused}
+use Rattle.tables.proofs.Dims.{logUp-least, logUp-above, depth-few, addressRow-few, switchBits-few}
+
+-- ---- doubling
+
+-- the power of e, on the way up to the first that reaches x
+pub record Climbing (x e power : ℕ) : Type 0 where
+  pub exact : power ≡ 2 ^ e
+  pub upto : e ≤ logUp x
+
+pub climbing-none : (x : ℕ) → Climbing x 0 1
+climbing-none x = record { exact = refl; upto = omega arith }
+
+module _ {x e power : ℕ} (C : Climbing x e power) where
+  pub climbing-positive : 0 < power
+  climbing-positive = omega (arith, C .exact, pow-pos e)
+
+  pub climbing-few : x ≤ 4096 → e ≤ 12
+  climbing-few l = omega (arith, C .upto, logUp-least x 12 l)
+
+  pub climbing-more : power < x → Climbing x (e + 1) (power * 2)
+  climbing-more l = record {
+    exact = rw (add-one, pow-suc) (ap (λ (z : ℕ). z * 2) (C .exact));
+    upto = omega (arith, logUp-above x e (omega (arith, C .exact)));
+  }
+
+  pub climbing-done : x ≤ power → e ≡ logUp x
+  climbing-done l = omega (arith, C .upto, logUp-least x e (omega (arith, C .exact)))
+
+-- ---- a shape
+
+-- `1 << d`, of 64 bits
+one-shl-wide : (d : ℕ) → d ≤ 6 → 1 * 2 ^ d % 2 ^ 64 ≡ 2 ^ d
+one-shl-wide d l = shl-exact {a = 1} 1 d 64 (lit< tt) (omega arith) ∙ one-mul (2 ^ d)
+
+-- the parts as the code works them out: the bits of an address, the depth of the network and its switches
+module _ {n w a d s : ℕ} (D : Dims n w) (address : a ≡ logUp (n / w)) (deep : d ≡ logUp w) (switches : s ≡ bitCount d) where
+  pub parts-few : (w * a ≤ 768) × (s ≤ 321)
+  unfolding addressRow addressBits cycles switchBits depth
+  parts-few = (rw address (addressRow-few D), rw (switches, deep) (switchBits-few D))
+
+  pub shape-made : _≡_ {A = Shape}
+      (record {
+        words = n;
+        width = w;
+        cycles = n / w;
+        address = a;
+        lines = 1 * 2 ^ d % 2 ^ 64;
+        switches = s;
+        start = 24;
+        stride = w * a + (s + w * a);
+      })
+      (shapeOf n w)
+  unfolding shapeOf cycles addressBits depth switchBits lineBits addressRow headerBits
+  shape-made = let few : d ≤ 6 = rw deep (depth-few D) in rw (one-shl-wide d few, address, switches, deep)
+
+-- a shape of n words and width w, read part by part
+module _ {n w : ℕ} {s : Shape} (D : Dims n w) (e : s ≡ shapeOf n w) where
+  pub shape-own : Dims (s .words) (s .width) × (s ≡ shapeOf (s .words) (s .width))
+  unfolding shapeOf
+  shape-own = rw e (D, refl)
+
+  -- the bits of all lines, and where the last one ends
+  pub shape-total : s .cycles * s .stride ≡ cycles n w * lineBits n w
+  unfolding shapeOf
+  shape-total = ap (λ (z : Shape). z .cycles * z .stride) e
+
+  pub shape-end : s .start + s .cycles * s .stride ≡ lineAt n w (cycles n w)
+  unfolding shapeOf lineAt
+  shape-end = ap (λ (z : Shape). z .start + z .cycles * z .stride) e
+
+  -- the bytes of a set
+  pub shape-length : 3 + (s .cycles * s .stride + 7) / 8 ≡ fileLength n w
+  unfolding fileLength
+  shape-length = ap (λ (z : ℕ). 3 + (z + 7) / 8) shape-total
+
+  pub shape-fileLength : fileLength (s .words) (s .width) ≡ fileLength n w
+  unfolding shapeOf
+  shape-fileLength = ap (λ (z : Shape). fileLength (z .words) (z .width)) e
+
+-- ---- a header
+
+-- the tests of a file of three bytes or more, where its header says n, w and z
+abbrev pub readTest : ℕ → ℕ → ℕ → List ℕ → Opened
+readTest n w z file =
+    ifLt n 1 (Refused Header)
+    (ifLt 4096 n (Refused Header)
+    (ifLt w 1 (Refused Header)
+    (ifLt 64 w (Refused Header)
+    (ifEq (n % w) 0 (ifEq z 0 (lengthTest n w file) (Refused Header)) (Refused Header)))))
+
+pub header-read : {n w z : ℕ} {r : Opened} (file : List ℕ) → n ≡ field file 0 13 → w ≡ field file 13 7 → z ≡ field file 20 4 → 3 ≤ length file
+    → r ≡ readTest n w z file → r ≡ openOf file
+unfolding openOf headerTest headerWords headerWidth headerZeros
+header-read file p q o l h = ifLt-no (length file) 3 _ _ _ l (rw (p, q, o) at h)

@@ -1,0 +1,81 @@
+-- What the code takes from a line: all lines are sent through its network at once, each with its own number, and the parts of a line stand
+-- where the shape says.
+use Prim.Native.Nat.{ℕ, _+_, _*_, _^_, _<_, _≤_}
+use mathlib.Core.Path.{_≡_, refl, sym, ap, _∙_}
+use mathlib.Core.List.{List, _++_}
+use native.Mathlib.Omega.{arith}
+use lib.ListN.{length, getD, take, drop, length-append, length-drop, List·getD-append}
+use lib.Seq.{length-take-le, getD-take}
+use Rattle.bits.specs.Bits.{bit}
+use Rattle.network.specs.Network.{leaves}
+use Rattle.network.specs.Calls.{Sized, Routed}
+use Rattle.network.proofs.Leaves.{leaves-ext, leaves-below}
+use Rattle.tables.specs.Terms.{Dims, cycles, depth, switchBits, addressRow}
+use Rattle.tables.specs.Format.{lineAt, shapeOf}
+use Rattle.tables.specs.Lines.{Addresses, Switches, Sources, Line}
+use Rattle.tables.specs.declared.Shape.{Shape}
+use Rattle.tables.proofs.Dims.{addressBits-few, lines-few, switchBits-few, addressRow-few, lineAt-few}
+
+-- the fronts that a pass takes are as long as a network wants them
+pub fronts-sized : (d : ℕ) {lines count : ℕ} (found standing : List ℕ) → Sized lines count d → lines ≤ length standing → count ≤ length found
+    → Sized (length (take lines standing)) (length (take count found)) d
+fronts-sized d {lines} {count} found standing S l m = (length-take-le lines standing l ∙ S .0, length-take-le count found m ∙ S .1)
+
+-- a pass over the front of the numbered lines
+pub sources-routed : {d at lines count : ℕ} {file found after : List ℕ} (standing : List ℕ) → Sized lines count d → lines ≤ 64
+    → Switches file at count found → (length standing ≡ 64) × ((x : ℕ) → x < 64 → getD standing x 0 ≡ x)
+    → Routed d (take count found) (take lines standing) after → Sources d file at (after ++ drop lines standing)
+sources-routed {d} {at} {lines} {count} {file} {found} {after} standing S few W N R = record {
+  long = simp (length-append, length-drop) (omega (arith, N .0, long));
+  each = λ x l.
+      let y : ℕ = leaves d (λ i. bit file (at + i)) x in
+      let here : y < length after = omega (arith, long, S .0, leaves-below d (λ i. bit file (at + i)) x l) in
+      List·getD-append after (drop lines standing) 0 y here ∙ ap (λ (z : ℕ). getD after z 0) (same x l) ∙ R .moved x l
+      ∙ getD-take lines standing x 0 (omega (arith, S .0)) ∙ N .1 x (omega (arith, S .0));
+}
+  where
+    long : length after ≡ lines
+    long = R .long ∙ length-take-le lines standing (omega (arith, N .0))
+
+    same : (x : ℕ) → x < 2 ^ d → leaves d (λ i. bit file (at + i)) x ≡ leaves d (λ i. getD (take count found) i 0) x
+    same x l =
+        leaves-ext d (λ i. bit file (at + i)) (λ i. getD (take count found) i 0)
+        (λ i m. let b : i < count = omega (arith, S .1) in sym (getD-take count found i 0 b ∙ W .each i b)) x l
+
+-- ---- a line's parts
+
+-- the parts of line t keep the limits of what reads them, and end far from any overflow
+pub record Fitting (s : Shape) (t : ℕ) : Type 0 where
+  pub address : s .address ≤ 16
+  pub width : s .width ≤ 64
+  pub lines : s .lines ≤ 64
+  pub switches : s .switches ≤ 321
+  pub within : s .start + t * s .stride + s .width * s .address + s .switches < 2 ^ 32
+
+pub line-fits : {n w t : ℕ} {s : Shape} → Dims n w → s ≡ shapeOf n w → t < cycles n w → Fitting s t
+unfolding shapeOf lineAt addressRow
+line-fits {n} {w} {t} D e l = rw e (record {
+  address = omega (arith, addressBits-few D);
+  width = D .narrow;
+  lines = lines-few D;
+  switches = switchBits-few D;
+  within = omega (arith, lineAt-few D t (omega arith), addressRow-few D, switchBits-few D);
+})
+
+-- its network
+pub line-sized : {n w : ℕ} {s : Shape} → Dims n w → s ≡ shapeOf n w → (d : ℕ) × Sized (s .lines) (s .switches) d
+unfolding shapeOf switchBits
+line-sized {n} {w} D e = (depth w, rw e (refl, refl))
+
+-- what was read, where the shape says that the parts stand
+pub line-read : {n w t : ℕ} {s : Shape} {file reads sources writes : List ℕ} → Dims n w → s ≡ shapeOf n w
+    → Addresses file (s .start + t * s .stride) (s .address) (s .width) reads
+    → ((d : ℕ) → Sized (s .lines) (s .switches) d → Sources d file (s .start + t * s .stride + s .width * s .address) sources)
+    → Addresses file (s .start + t * s .stride + s .width * s .address + s .switches) (s .address) (s .width) writes
+    → Line n w file t reads sources writes
+unfolding shapeOf lineAt addressRow switchBits
+line-read {n} {w} D e reading carrying writing = record {
+  reading = rw e at reading;
+  carrying = (rw e at carrying) (depth w) (refl, refl);
+  writing = rw e at writing;
+}

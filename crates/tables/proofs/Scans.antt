@@ -1,0 +1,86 @@
+-- The loops that read lines: a scan that meets what it looks for, or passes it; and the eight switch bits that are taken at a time, whose
+-- digits are the bits themselves.
+use Prim.Native.Nat.{ℕ, zero, suc, _+_, _*_, _-_, _/_, _%_, _^_, _<_, _≤_}
+use mathlib.Core.Path.{_≡_, sym, _∙_}
+use mathlib.Core.Bool.{true, false}
+use mathlib.Core.List.{List}
+use native.Mathlib.Omega.{arith}
+use native.Mathlib.Decide.{ℕ-discrete}
+use borrow.Author.Tests.{lt-ltb, le-ltb, le-leb, lt-leb}
+use lib.Dec.{leb}
+use lib.ListN.{getD}
+use Rattle.laws.specs.Any.{any}
+use Rattle.laws.proofs.Anys.{any-none, any-some}
+use Rattle.bits.specs.Bits.{digit, bit, field}
+use Rattle.bits.proofs.Digits.{digit-zero, digit-high}
+use Rattle.bits.proofs.Fields.{bit-lt}
+use Rattle.tables.specs.Lines.{spareUsed}
+
+-- ---- addresses
+
+-- the numbers of xs before i are below the limit
+pub record Low (xs : List ℕ) (limit i : ℕ) : Type 0 where
+  pub each : (j : ℕ) → j < i → getD xs j 0 < limit
+
+pub low-none : (xs : List ℕ) (limit : ℕ) → Low xs limit 0
+low-none xs limit = record { each = λ j l. absurd (omega arith) }
+
+pub low-more : {xs : List ℕ} {limit i : ℕ} → Low xs limit i → getD xs i 0 < limit → Low xs limit (i + 1)
+low-more {xs} {limit} {i} L h = record {
+  each = λ j l. elim (ℕ-discrete j i) [ yes e ↦ rw e h | no ne ↦ L .each j (omega arith) ];
+}
+
+pub low-met : (xs : List ℕ) (limit count i : ℕ) → i < count → limit ≤ getD xs i 0 → true ≡ any count (λ j. leb limit (getD xs j 0))
+low-met xs limit count i l h = sym (any-some count (λ j. leb limit (getD xs j 0)) i l (le-leb limit (getD xs i 0) h))
+
+pub low-all : {xs : List ℕ} {limit i : ℕ} (count : ℕ) → Low xs limit i → count ≤ i → false ≡ any count (λ j. leb limit (getD xs j 0))
+low-all {xs} {limit} {i} count L l =
+    sym (any-none count (λ j. leb limit (getD xs j 0)) (λ j m. lt-leb limit (getD xs j 0) (L .each j (omega arith))))
+
+-- ---- spare lines
+
+-- on the lines from the width up to y no line below the width leaves
+pub record Spare (sources : List ℕ) (width y : ℕ) : Type 0 where
+  pub from : width ≤ y
+  pub each : (x : ℕ) → width ≤ x → x < y → width ≤ getD sources x 0
+
+pub spare-none : (sources : List ℕ) (width : ℕ) → Spare sources width width
+spare-none sources width = record { from = omega arith; each = λ x l m. absurd (omega arith) }
+
+pub spare-more : {sources : List ℕ} {width y : ℕ} → Spare sources width y → width ≤ getD sources y 0 → Spare sources width (y + 1)
+spare-more {sources} {width} {y} S h = record {
+  from = omega (arith, S .from);
+  each = λ x l m. elim (ℕ-discrete x y) [ yes e ↦ rw e h | no ne ↦ S .each x l (omega arith) ];
+}
+
+pub spare-met : (sources : List ℕ) (width lines y : ℕ) → width ≤ y → y < lines → getD sources y 0 < width → true ≡ spareUsed sources width lines
+unfolding spareUsed
+spare-met sources width lines y from l h =
+    let e : width + (y - width) ≡ y = omega arith in
+    sym (any-some (lines - width) _ (y - width) (omega arith) (rw e (lt-ltb (getD sources y 0) width h)))
+
+pub spare-all : {sources : List ℕ} {width y : ℕ} (lines : ℕ) → Spare sources width y → lines ≤ y → false ≡ spareUsed sources width lines
+unfolding spareUsed
+spare-all {sources} {width} {y} lines S l =
+    sym (any-none (lines - width) _ (λ i m. le-ltb (getD sources (width + i) 0) width (S .each (width + i) (omega arith) (omega arith))))
+
+-- ---- bits
+
+-- the bits of a field are its digits
+pub bit-field : (xs : List ℕ) (at w j : ℕ) → j < w → bit xs (at + j) ≡ digit (field xs at w) (w - suc j)
+unfolding field
+bit-field xs at zero j l = absurd (omega arith)
+bit-field xs at (suc w) j l = elim (ℕ-discrete j w) [
+  | yes e ↦ let z : suc w - suc w ≡ 0 = omega arith in rw (e, z, digit-zero) (omega (arith, bit-lt xs (at + w)))
+  | no ne ↦
+      let s : suc w - suc j ≡ 1 + (w - suc j) = omega arith in
+      rw s (bit-field xs at w j (omega arith) ∙ sym (digit-high (field xs at w) 1 (w - suc j) (bit-lt xs (at + w))))
+]
+
+-- where bit i stands among the eight that are taken at a time
+pub bit-eight : (xs : List ℕ) (at i eight : ℕ) → eight ≡ field xs (at + i / 8 * 8) 8 → eight / 2 ^ (7 - i % 8) % 2 ≡ bit xs (at + i)
+unfolding digit
+bit-eight xs at i eight e =
+    let s : at + i / 8 * 8 + i % 8 ≡ at + i = omega arith in
+    let k : 8 - suc (i % 8) ≡ 7 - i % 8 = omega arith in
+    rw e (sym (rw (s, k) at (bit-field xs (at + i / 8 * 8) 8 (i % 8) (omega arith))))

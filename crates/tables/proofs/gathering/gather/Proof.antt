@@ -1,0 +1,77 @@
+-- `tables::gathering::gather` meets its contract: a line is refused, which stops the scan there, or the scan goes on behind it.
+use Prim.Native.Nat.{ℕ, _-_}
+use mathlib.Core.Path.{_≡_, subst, sym, _∙_}
+use native.Mathlib.Omega.{arith}
+use borrow.Author.Needs.{needs}
+use lib.ListN.{length}
+use Rattle.tables.specs.Gathering.{Gathers}
+use Rattle.tables.specs.declared.gathering.Gathered.{Gathered}
+use Rattle.tables.proofs.Lined.{shape-cycles}
+use Rattle.tables.proofs.Gathers.{Gathering, gathering-none, gathering-more, gathering-refused, gathering-all}
+use Rattle.tables.proofs.gathering.gather.Statement.{statement}
+use Rattle.tables.proofs.gathering.gather.Tie as tie
+
+abbrev Inv-loop : tie.InvT-loop
+Inv-loop file shape places₀ words₀ cycles t₀ places words t = Gathering (shape .words) (shape .width) file t places words
+
+abbrev μ-loop : tie.MeasureT-loop
+μ-loop file shape places₀ words₀ cycles t₀ places words t = cycles - t
+
+loop-holds : tie.Need-loop-holds Inv-loop μ-loop
+loop-holds c = gathering-none (c .before .before .before .pre .1)
+
+gather-line-requires : tie.Need-gather-line-requires Inv-loop μ-loop
+gather-line-requires c κs = let s = c .before .before .before .before .before .before .before in let e = shape-cycles (s .args .shape) (s .pre .0 .1) in ((s .pre .0 .0, s .pre .0 .1, rw e at (c .before .before .loop-test .taken)), c .before .before .before .loop .inv .gathered)
+
+enum-known-gathered : tie.Need-enum-known-gathered Inv-loop μ-loop
+enum-known-gathered c = search needs
+
+same-length : tie.Need-same-length Inv-loop μ-loop
+same-length c = c .before .before .before .before .before .before .before .gather-line .kept .1 .1 .1 .0 ∙ c .before .before .before .before .before .before .before .before .before .before .before .loop .inv .gathered .long ∙ sym (c .before .before .before .before .before .before .before .before .before .before .before .before .before .before .before .pre .1 .long)
+
+same-length-2 : tie.Need-same-length-2 Inv-loop μ-loop
+same-length-2 c = c .before .before .before .before .before .before .before .gather-line .kept .1 .1 .1 .1 .0 ∙ c .before .before .before .before .before .before .before .before .before .before .before .loop .inv .gathered .long′ ∙ sym (c .before .before .before .before .before .before .before .before .before .before .before .before .before .before .before .pre .1 .long′)
+
+returns : tie.Need-returns Inv-loop μ-loop
+returns c = let s = c .before .before .before .before .before .before .before .before .before .before .before .before .before .before .before in let e = shape-cycles (s .args .shape) (s .pre .0 .1) in gathering-refused (c .before .before .before .before .before .before .before .before .before .before .before .loop .inv) (rw e at (c .before .before .before .before .before .before .before .before .before .before .loop-test .taken)) (subst (λ (g : Gathered). Gathers (s .args .shape .words) (s .args .shape .width) (s .args .file .now) (c .before .before .before .before .before .before .before .before .before .before .before .loop .t) g (c .before .before .before .before .before .before .before .gather-line .last .1 .1 .1 .0) (c .before .before .before .before .before .before .before .gather-line .last .1 .1 .1 .1 .0)) (c .before .gathered .given .1) (c .before .before .before .before .before .before .before .gather-line .ensures))
+
+enum-told : tie.Need-enum-told Inv-loop μ-loop
+enum-told c = search needs
+
+add-t : tie.Need-add-t Inv-loop μ-loop
+add-t c = search needs
+
+loop-less : tie.Need-loop-less Inv-loop μ-loop
+loop-less c = omega arith
+
+loop-again : tie.Need-loop-again Inv-loop μ-loop
+loop-again c = let s = c .before .before .before .before .before .before .before .before .before .before .before .before .before .before in let e = shape-cycles (s .args .shape) (s .pre .0 .1) in gathering-more (c .before .before .before .before .before .before .before .before .before .before .loop .inv) (rw e at (c .before .before .before .before .before .before .before .before .before .loop-test .taken)) (subst (λ (g : Gathered). Gathers (s .args .shape .words) (s .args .shape .width) (s .args .file .now) (c .before .before .before .before .before .before .before .before .before .before .loop .t) g (c .before .before .before .before .before .before .gather-line .last .1 .1 .1 .0) (c .before .before .before .before .before .before .gather-line .last .1 .1 .1 .1 .0)) (c .enum-told .given .1) (c .before .before .before .before .before .before .gather-line .ensures))
+
+same-length-3 : tie.Need-same-length-3 Inv-loop μ-loop
+same-length-3 c = c .before .loop .inv .gathered .long ∙ sym (c .before .before .before .before .before .pre .1 .long)
+
+same-length-4 : tie.Need-same-length-4 Inv-loop μ-loop
+same-length-4 c = c .before .loop .inv .gathered .long′ ∙ sym (c .before .before .before .before .before .pre .1 .long′)
+
+returns-2 : tie.Need-returns-2 Inv-loop μ-loop
+returns-2 c = let s = c .before .before .before .before .before in let e = shape-cycles (s .args .shape) (s .pre .0 .1) in gathering-all (c .before .loop .inv) (rw e at (c .loop-test .left))
+
+pub gather-spec : {M : Type 1} → statement M
+gather-spec =
+    tie.close
+    (tie.spec
+    Inv-loop
+    μ-loop
+    loop-holds
+    gather-line-requires
+    enum-known-gathered
+    same-length
+    same-length-2
+    returns
+    enum-told
+    add-t
+    loop-less
+    loop-again
+    same-length-3
+    same-length-4
+    returns-2)

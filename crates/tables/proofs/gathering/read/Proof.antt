@@ -1,0 +1,46 @@
+-- `tables::gathering::read` meets its contract: the file has no form of a set, or the set is read.
+use mathlib.Core.Path.{_≡_, refl, sym, ap, subst, _∙_}
+use native.Mathlib.Omega.{arith}
+use borrow.Author.Needs.{needs}
+use Rattle.tables.specs.Format.{openOf}
+use Rattle.tables.specs.Reading.{Outcome, readOpened, readOf}
+use Rattle.tables.specs.declared.Opened.{Opened}
+use Rattle.tables.specs.declared.Opened.the-variants.{Set, Refused}
+use Rattle.tables.proofs.Form.{opened-shape}
+use Rattle.tables.proofs.gathering.read.Statement.{statement}
+use Rattle.tables.proofs.gathering.read.Tie as tie
+
+open-requires : tie.Need-open-requires
+open-requires c κs = search needs
+
+enum-known-refusal : tie.Need-enum-known-refusal
+enum-known-refusal c = search needs
+
+enum-known-shape : tie.Need-enum-known-shape
+enum-known-shape c = search needs
+
+read-set-requires : tie.Need-read-set-requires
+read-set-requires c κs = opened-shape _ _ (sym (c .before .before .before .before .«open» .ensures) ∙ c .before .before .shape .given .1)
+
+returns : tie.Need-returns
+unfolding readOf readOpened
+returns c = let s = c .before .before .before .before .before .before .before in ap (λ (o : Opened). readOpened o (s .args .file .now) (s .args .images .now) (s .args .scratch .now)) (sym (c .before .refusal .given .1) ∙ c .before .before .before .«open» .ensures)
+
+same-length : tie.Need-same-length
+same-length c = search needs
+
+returns-2 : tie.Need-returns-2
+unfolding readOf readOpened
+returns-2 c = let s = c .before .before .before .before .before .before .before .before .before .before .before in c .before .before .read-set .ensures ∙ ap (λ (o : Opened). readOpened o (s .args .file .now) (s .args .images .now) (s .args .scratch .now)) (sym (c .before .before .before .before .before .shape .given .1) ∙ c .before .before .before .before .before .before .before .«open» .ensures)
+
+pub read-spec : {M : Type 1} → statement M
+read-spec =
+    tie.close
+    (tie.spec
+    open-requires
+    enum-known-refusal
+    enum-known-shape
+    read-set-requires
+    returns
+    same-length
+    returns-2)

@@ -1,0 +1,96 @@
+-- `tables::gathering::read_set` meets its contract: each return stands at its place in the definition, and what was gathered are the images.
+use Prim.Native.Nat.{ℕ}
+use mathlib.Core.Path.{_≡_, refl, sym, ap, subst, _∙_}
+use mathlib.Core.List.{List}
+use native.Mathlib.Omega.{arith}
+use borrow.Author.Needs.{needs}
+use lib.ListN.{length, getD}
+use Rattle.laws.specs.Tabulate.{overwrite}
+use Rattle.laws.proofs.Choices.{ifLt-yes, ifLt-no}
+use Rattle.laws.proofs.Tabulates.{overwrite-ext}
+use Rattle.refusal.specs.declared.Refusal.{Refusal}
+use Rattle.tables.specs.Reading.{Outcome, outcome, imageOf, readLines}
+use Rattle.tables.specs.Gathering.{Gather, GathersAll}
+use Rattle.tables.specs.declared.Reading.the-variants.{Read, Refused}
+use Rattle.tables.specs.declared.gathering.Gathered.{Gathered}
+use Rattle.tables.proofs.Gathers.{gather-none, gather-images, gather-scan}
+use Rattle.tables.proofs.gathering.read_set.Statement.{statement}
+use Rattle.tables.proofs.gathering.read_set.Tie as tie
+
+returns : tie.Need-returns
+unfolding readLines
+returns c = ifLt-yes _ _ _ _ _ (c .if1 .taken) refl
+
+mul-if2 : tie.Need-mul-if2
+mul-if2 c = search needs
+
+returns-2 : tie.Need-returns-2
+unfolding readLines
+returns-2 c = ifLt-no _ _ _ _ _ (c .before .if1 .left) (ifLt-yes _ _ _ _ _ (c .if2 .taken) refl)
+
+slice-aggregate-gather : tie.Need-slice-aggregate-gather
+slice-aggregate-gather c = search needs
+
+slice-aggregate-gather-2 : tie.Need-slice-aggregate-gather-2
+slice-aggregate-gather-2 c = search needs
+
+gather-requires : tie.Need-gather-requires
+gather-requires c κs = let s = c .before .before .before .before .before .before .before in (s .pre, gather-none _ _ _ (s .pre .0))
+
+enum-known-refusal : tie.Need-enum-known-refusal
+enum-known-refusal c = search needs
+
+enum-told : tie.Need-enum-told
+enum-told c = search needs
+
+slice-aggregate-write-images : tie.Need-slice-aggregate-write-images
+slice-aggregate-write-images c = search needs
+
+write-images-requires : tie.Need-write-images-requires
+write-images-requires c κs = search needs
+
+returns-3 : tie.Need-returns-3
+unfolding readLines
+returns-3 c =
+    let s = c .before .before .before .before .before .before .before .before .before .before .before .before .before in
+    let n = s .args .shape .words in
+    let w = s .args .shape .width in
+    let images = s .args .images .now in
+    let G : Gathered → Type 0 = λ g. GathersAll n w (s .args .file .now) g (c .before .before .before .before .before .gather .last .1 .1 .0) (c .before .before .before .before .before .gather .last .1 .1 .1 .0) in
+    let stops = subst G (c .before .refusal .given .1) (c .before .before .before .before .before .gather .ensures) in
+    ifLt-no _ _ _ _ _ (c .before .before .before .before .before .before .before .before .before .if1 .left) (ifLt-no _ _ _ _ _ (c .before .before .before .before .before .before .before .before .if2 .left) (sym (stops (λ r. outcome (Refused r) images) _)))
+
+same-length : tie.Need-same-length
+same-length c = search needs
+
+returns-4 : tie.Need-returns-4
+unfolding readLines
+returns-4 c =
+    let s = c .before .before .before .before .before .before .before .before .before .before .before .before .before .before .before .before .before in
+    let n = s .args .shape .words in
+    let w = s .args .shape .width in
+    let images = s .args .images .now in
+    let G : Gathered → Type 0 = λ g. GathersAll n w (s .args .file .now) g (c .before .before .before .before .before .before .before .before .before .gather .last .1 .1 .0) (c .before .before .before .before .before .before .before .before .before .gather .last .1 .1 .1 .0) in
+    let D = s .pre .0 in
+    let all : Gather n w (s .args .file .now) _ _ _ = subst G (c .before .before .before .before .before .enum-told .given .1) (c .before .before .before .before .before .before .before .before .before .gather .ensures) in
+    let made = c .before .before .write-images .ensures ∙ overwrite-ext n _ (imageOf n w (s .args .file .now)) images (gather-images D all) in
+    ifLt-no _ _ _ _ _ (c .before .before .before .before .before .before .before .before .before .before .before .before .before .if1 .left) (ifLt-no _ _ _ _ _ (c .before .before .before .before .before .before .before .before .before .before .before .before .if2 .left)
+    (ap (λ (xs : List ℕ). outcome (Read n w) xs) made ∙ sym (gather-scan all (λ r. outcome (Refused r) images) _)))
+
+pub read-set-spec : {M : Type 1} → statement M
+read-set-spec =
+    tie.close
+    (tie.spec
+    returns
+    mul-if2
+    returns-2
+    slice-aggregate-gather
+    slice-aggregate-gather-2
+    gather-requires
+    enum-known-refusal
+    enum-told
+    slice-aggregate-write-images
+    write-images-requires
+    returns-3
+    same-length
+    returns-4)

@@ -1,0 +1,57 @@
+-- `lines::line_at` meets its contract: each part of the line is read from where the shape says that it stands.
+use native.Mathlib.Omega.{arith}
+use Rattle.tables.proofs.Passes.{Fitting, line-fits, line-sized, line-read}
+use Rattle.tables.proofs.lines.line_at.Statement.{statement}
+use Rattle.tables.proofs.lines.line_at.Tie as tie
+
+fits-known : (s : tie.Start) → Fitting (s .args .shape) (s .args .t)
+fits-known s = line-fits (s .pre .0 .0) (s .pre .0 .1) (s .pre .1)
+
+mul-at : tie.Need-mul-at
+mul-at c = omega (arith, fits-known (c .before .before))
+
+add-at : tie.Need-add-at
+add-at c = omega (arith, fits-known (c .before .before .before))
+
+mul-row : tie.Need-mul-row
+mul-row c = omega (arith, fits-known (c .before .before .before .before))
+
+addresses-requires : tie.Need-addresses-requires
+addresses-requires c κs = omega (arith, fits-known (c .before .before .before .before))
+
+add-sources : tie.Need-add-sources
+add-sources c = omega (arith, fits-known (c .before .before .before .before .before))
+
+sources-requires : tie.Need-sources-requires
+sources-requires c κs =
+    let s = c .before .before .before .before .before in
+    (line-sized (s .pre .0 .0) (s .pre .0 .1), omega (arith, fits-known s))
+
+add-addresses : tie.Need-add-addresses
+add-addresses c = omega (arith, fits-known (c .before .before .before .before .before .before))
+
+add-addresses-2 : tie.Need-add-addresses-2
+add-addresses-2 c = omega (arith, fits-known (c .before .before .before .before .before .before .before))
+
+addresses-requires-2 : tie.Need-addresses-requires-2
+addresses-requires-2 c κs = omega (arith, fits-known (c .before .before .before .before .before .before .before))
+
+returns : tie.Need-returns
+returns c =
+    let s = c .before .before .before .before .before .before .before .before in
+    line-read (s .pre .0 .0) (s .pre .0 .1) (c .before .before .before .addresses .ensures) (c .before .before .sources .ensures) (c .addresses2 .ensures)
+
+pub line-at-spec : {M : Type 1} → statement M
+line-at-spec =
+    tie.close
+    (tie.spec
+    mul-at
+    add-at
+    mul-row
+    addresses-requires
+    add-sources
+    sources-requires
+    add-addresses
+    add-addresses-2
+    addresses-requires-2
+    returns)

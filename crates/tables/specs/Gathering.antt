@@ -1,0 +1,73 @@
+-- What reading has gathered after the first t lines: the place of each word that was read, and the word of each place that was taken.
+-- 65535 stands for none.
+use Prim.Native.Nat.{ℕ, suc, _+_, _*_, _<_, _≤_}
+use mathlib.Core.Path.{_≡_}
+use mathlib.Core.Bool.{Bool, true, false, not}
+use mathlib.Core.List.{List}
+use lib.Dec.{leb, eqb}
+use lib.ListN.{length, getD}
+use Rattle.laws.specs.Choice.{choose}
+use Rattle.laws.specs.Any.{any}
+use Rattle.refusal.specs.declared.Refusal.{Refusal}
+use Rattle.tables.specs.Terms.{cycles}
+use Rattle.tables.specs.Format.{readAddress, writeAddress}
+use Rattle.tables.specs.Datapath.{carryStrays, source, target}
+use Rattle.tables.specs.Reading.{Outcome, readFault, writeFault, scanLines}
+use Rattle.tables.specs.declared.gathering.Gathered.{Gathered}
+use Rattle.tables.specs.declared.gathering.Gathered.the-variants.{All, Refused}
+
+-- an address of a bank is outside the frame, or its word or place is marked
+unfoldable pub faulty : List ℕ → List ℕ → ℕ → ℕ → Bool
+faulty addresses marks w c =
+    any w (λ b. choose (leb c (getD addresses b 0)) true (not (eqb (getD marks (getD addresses b 0 * w + b) 0) 65535)))
+
+-- after the lines below t, all of which passed
+pub record Gather (n w : ℕ) (file : List ℕ) (t : ℕ) (places words : List ℕ) : Type 0 where
+  pub long : length places ≡ 4096
+  pub long′ : length words ≡ 4096
+  pub passed : (s : ℕ) → s < t → (any w (readFault n w file s) ≡ false) × (carryStrays n w file s ≡ false) × (any w (writeFault n w file s) ≡ false)
+  pub placed : (s b : ℕ) → s < t → b < w → getD places (source n w file s b) 0 ≡ target n w file s b
+  pub worded : (s b : ℕ) → s < t → b < w → getD words (target n w file s b) 0 ≡ source n w file s b
+  pub unread : (a b : ℕ) → a < cycles n w → b < w → ((s : ℕ) → s < t → readAddress n w file s b ≡ a → ⊥) → getD places (a * w + b) 0 ≡ 65535
+  pub untaken : (a k : ℕ) → a < cycles n w → k < w → ((s : ℕ) → s < t → writeAddress n w file s k ≡ a → ⊥) → getD words (a * w + k) 0 ≡ 65535
+
+-- what the answer to one line says: it passed, or the scan of the lines stops there
+abbrev pub Gathers : ℕ → ℕ → List ℕ → ℕ → Gathered → List ℕ → List ℕ → Type 0
+Gathers n w file t All places words = Gather n w file (t + 1) places words
+Gathers n w file t (Refused r) places words = (k : ℕ) (refused : Refusal → Outcome) (next : Outcome) → scanLines n w file (suc k) t refused next ≡ refused r
+
+-- what the answer to all lines says
+abbrev pub GathersAll : ℕ → ℕ → List ℕ → Gathered → List ℕ → List ℕ → Type 0
+GathersAll n w file All places words = Gather n w file (cycles n w) places words
+GathersAll n w file (Refused r) places words =
+    (refused : Refusal → Outcome) (next : Outcome) → scanLines n w file (cycles n w) 0 refused next ≡ refused r
+
+-- the word that a line sends to bank k, and its place
+abbrev pub wordAt : List ℕ → List ℕ → ℕ → ℕ → ℕ
+wordAt reads sources w k = getD reads (getD sources k 0) 0 * w + getD sources k 0
+
+abbrev pub placeAt : List ℕ → ℕ → ℕ → ℕ
+placeAt writes w k = getD writes k 0 * w + k
+
+-- a line whose words and places can be marked: they are in the arrays, and different banks send different words
+pub record Markable (reads sources writes places words : List ℕ) (w : ℕ) : Type 0 where
+  pub few : w ≤ 64
+  pub reads-long : length reads ≡ 64
+  pub sources-long : length sources ≡ 64
+  pub writes-long : length writes ≡ 64
+  pub places-long : length places ≡ 4096
+  pub words-long : length words ≡ 4096
+  pub banks : (k : ℕ) → k < w → getD sources k 0 < w
+  pub words-below : (k : ℕ) → k < w → wordAt reads sources w k < 4096
+  pub places-below : (k : ℕ) → k < w → placeAt writes w k < 4096
+  pub apart : (j k : ℕ) → j < w → k < w → wordAt reads sources w j ≡ wordAt reads sources w k → j ≡ k
+  pub apart′ : (j k : ℕ) → j < w → k < w → placeAt writes w j ≡ placeAt writes w k → j ≡ k
+
+-- the first j banks' words and places are marked with each other, and all else is as it was
+pub record Marked (reads sources writes : List ℕ) (w j : ℕ) (places₀ words₀ places words : List ℕ) : Type 0 where
+  pub long : length places ≡ length places₀
+  pub long′ : length words ≡ length words₀
+  pub placed : (k : ℕ) → k < j → getD places (wordAt reads sources w k) 0 ≡ placeAt writes w k
+  pub worded : (k : ℕ) → k < j → getD words (placeAt writes w k) 0 ≡ wordAt reads sources w k
+  pub kept : (i : ℕ) → ((k : ℕ) → k < j → wordAt reads sources w k ≡ i → ⊥) → getD places i 0 ≡ getD places₀ i 0
+  pub kept′ : (i : ℕ) → ((k : ℕ) → k < j → placeAt writes w k ≡ i → ⊥) → getD words i 0 ≡ getD words₀ i 0

@@ -1,0 +1,37 @@
+-- What the code takes from the lines of a set. Only contracts of our own crates cite these.
+use Prim.Native.Nat.{ℕ, _+_, _*_, _-_, _^_, _<_}
+use mathlib.Core.Path.{_≡_}
+use mathlib.Core.Bool.{Bool}
+use mathlib.Core.List.{List}
+use lib.Dec.{ltb}
+use lib.ListN.{length, getD}
+use Rattle.laws.specs.Any.{any}
+use Rattle.bits.specs.Bits.{bit, field}
+use Rattle.network.specs.Network.{leaves}
+use Rattle.tables.specs.Terms.{addressBits, depth, switchBits, addressRow}
+use Rattle.tables.specs.Format.{lineAt}
+
+-- the addresses that stand from bit `at` on
+pub record Addresses (file : List ℕ) (at address count : ℕ) (found : List ℕ) : Type 0 where
+  pub long : length found ≡ 64
+  pub each : (b : ℕ) → b < count → getD found b 0 ≡ field file (at + b * address) address
+
+-- the switch bits that stand from bit `at` on
+pub record Switches (file : List ℕ) (at count : ℕ) (found : List ℕ) : Type 0 where
+  pub long : length found ≡ 321
+  pub each : (i : ℕ) → i < count → getD found i 0 ≡ bit file (at + i)
+
+-- on the line to which a network carries line x stands x; its bits stand from bit `at` on
+pub record Sources (d : ℕ) (file : List ℕ) (at : ℕ) (found : List ℕ) : Type 0 where
+  pub long : length found ≡ 64
+  pub each : (x : ℕ) → x < 2 ^ d → getD found (leaves d (λ i. bit file (at + i)) x) 0 ≡ x
+
+-- what line t does
+pub record Line (n w : ℕ) (file : List ℕ) (t : ℕ) (reads sources writes : List ℕ) : Type 0 where
+  pub reading : Addresses file (lineAt n w t) (addressBits n w) w reads
+  pub carrying : Sources (depth w) file (lineAt n w t + addressRow n w) sources
+  pub writing : Addresses file (lineAt n w t + addressRow n w + switchBits w) (addressBits n w) w writes
+
+-- a line below the width stands on a spare line
+unfoldable pub spareUsed : List ℕ → ℕ → ℕ → Bool
+spareUsed sources width lines = any (lines - width) (λ i. ltb (getD sources (width + i) 0) width)

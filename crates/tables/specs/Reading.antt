@@ -1,0 +1,63 @@
+-- Reading a set: the refusals 9, 10 and 11 line by line, the permutation that an accepted set performs, and the call.
+use Prim.Native.Nat.{ℕ, zero, suc, _+_, _*_, _/_, _%_}
+use mathlib.Core.Bool.{Bool, true, false}
+use mathlib.Core.List.{List}
+use lib.Dec.{leb, eqb}
+use lib.ListN.{length}
+use Rattle.laws.specs.Choice.{choose, ifLt}
+use Rattle.laws.specs.Any.{any}
+use Rattle.laws.specs.Tabulate.{overwrite}
+use Rattle.laws.specs.Permutation.{inverse}
+use Rattle.refusal.specs.declared.Refusal.{Refusal}
+use Rattle.refusal.specs.declared.Refusal.the-variants.{ReadAddress, SpareLine, WriteAddress, BufferShort}
+use Rattle.tables.specs.Terms.{cycles}
+use Rattle.tables.specs.Format.{readAddress, writeAddress, openOf}
+use Rattle.tables.specs.Datapath.{target, carryStrays}
+use Rattle.tables.specs.declared.Shape.{Shape}
+use Rattle.tables.specs.declared.Opened.{Opened}
+use Rattle.tables.specs.declared.Opened.the-variants.{Set, Refused}
+use Rattle.tables.specs.declared.Reading.{Reading}
+use Rattle.tables.specs.declared.Reading.the-variants.{Read, Refused as Unread}
+
+-- 9: "a read address in line t is c or more, or that bank has read it before"
+unfoldable pub readFault : ℕ → ℕ → List ℕ → ℕ → ℕ → Bool
+readFault n w file t b =
+    choose (leb (cycles n w) (readAddress n w file t b)) true
+    (any t (λ s. eqb (readAddress n w file s b) (readAddress n w file t b)))
+
+-- 11: "a write address in line t is c or more, or that bank has taken it before"
+unfoldable pub writeFault : ℕ → ℕ → List ℕ → ℕ → ℕ → Bool
+writeFault n w file t k =
+    choose (leb (cycles n w) (writeAddress n w file t k)) true
+    (any t (λ s. eqb (writeAddress n w file s k) (writeAddress n w file t k)))
+
+-- an answer, with the lent images afterwards
+pub data Outcome : Type 0 where
+  outcome : Reading → List ℕ → Outcome
+
+-- "line by line 9, 10, 11" over the k lines from line t on; then next
+unfoldable pub scanLines : ℕ → ℕ → List ℕ → ℕ → ℕ → (Refusal → Outcome) → Outcome → Outcome
+scanLines n w file zero t refused next = next
+scanLines n w file (suc k) t refused next =
+    choose (any w (readFault n w file t)) (refused (ReadAddress t))
+    (choose (carryStrays n w file t) (refused (SpareLine t))
+    (choose (any w (writeFault n w file t)) (refused (WriteAddress t)) (scanLines n w file k (t + 1) refused next)))
+
+-- the place of word i: line s is the one in which i's bank reads i's address, and the word is taken at the target of line s
+unfoldable pub imageOf : ℕ → ℕ → List ℕ → ℕ → ℕ
+imageOf n w file i = target n w file (inverse (cycles n w) (λ s. readAddress n w file s (i % w)) (i / w)) (i % w)
+
+-- reading a set of the right form, of n words and width w: 12, then the lines; accepted, the first n images are written
+unfoldable pub readLines : ℕ → ℕ → List ℕ → List ℕ → List ℕ → Outcome
+readLines n w file images scratch =
+    ifLt (length images) n (outcome (Unread BufferShort) images)
+    (ifLt (length scratch) (2 * n) (outcome (Unread BufferShort) images)
+    (scanLines n w file (cycles n w) 0 (λ r. outcome (Unread r) images) (outcome (Read n w) (overwrite n (imageOf n w file) images))))
+
+unfoldable pub readOpened : Opened → List ℕ → List ℕ → List ℕ → Outcome
+readOpened (Set shape) file images scratch = readLines (shape .words) (shape .width) file images scratch
+readOpened (Refused r) file images scratch = outcome (Unread r) images
+
+-- the call: its answer, and the images afterwards. Scratch is lent and not written.
+unfoldable pub readOf : List ℕ → List ℕ → List ℕ → Outcome
+readOf file images scratch = readOpened (openOf file) file images scratch

@@ -1,0 +1,54 @@
+-- Document 01, "The terms": the numbers that n and w determine.
+use Prim.Native.Nat.{ℕ, zero, suc, _+_, _*_, _/_, _%_, _^_, _<_, _≤_}
+use mathlib.Core.Path.{_≡_}
+use Rattle.laws.specs.Choice.{ifLe}
+use Rattle.network.specs.Network.{bitCount}
+
+-- n is 1 to 4,096, w is 1 to 64, and w divides n
+pub record Dims (n w : ℕ) : Type 0 where
+  pub some : 0 < n
+  pub few : n ≤ 4096
+  pub wide : 0 < w
+  pub narrow : w ≤ 64
+  pub even : n % w ≡ 0
+
+-- e, or the first number above it, up to e + k, whose power of two is at least x
+unfoldable pub logFrom : ℕ → ℕ → ℕ → ℕ
+logFrom x zero e = e
+logFrom x (suc k) e = ifLe x (2 ^ e) e (logFrom x k (e + 1))
+
+-- the least e with 2 ^ e at least x
+unfoldable pub logUp : ℕ → ℕ
+logUp x = logFrom x x 0
+
+-- c: cycles in a frame
+unfoldable pub cycles : ℕ → ℕ → ℕ
+cycles n w = n / w
+
+-- a: "the least whole number with 2^a at least c"
+unfoldable pub addressBits : ℕ → ℕ → ℕ
+addressBits n w = logUp (cycles n w)
+
+-- v is 2 ^ depth w: "the least power of two not below w"
+unfoldable pub depth : ℕ → ℕ
+depth w = logUp w
+
+-- B: the switch bits of a network v wide
+unfoldable pub switchBits : ℕ → ℕ
+switchBits w = bitCount (depth w)
+
+-- the bits of the read (or write) addresses of a line
+unfoldable pub addressRow : ℕ → ℕ → ℕ
+addressRow n w = w * addressBits n w
+
+-- the bits of a line: w read addresses, B switch bits, w write addresses
+unfoldable pub lineBits : ℕ → ℕ → ℕ
+lineBits n w = addressRow n w + (switchBits w + addressRow n w)
+
+-- the bits of the header: n in 13, w in 7, four zero bits
+unfoldable pub headerBits : ℕ
+headerBits = 24
+
+-- "length in bytes: 3 + ceil(c(2wa + B)/8)"
+unfoldable pub fileLength : ℕ → ℕ → ℕ
+fileLength n w = 3 + (cycles n w * lineBits n w + 7) / 8

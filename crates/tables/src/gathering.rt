@@ -1,0 +1,161 @@
+// Reading a set: one pass over its lines. The permutation is gathered in arrays of the call's own, and written after the last line.
+ghost use mathlib.Core.Path.{_≡_};
+ghost use Prim.Native.Nat.{ℕ, _+_, _*_, _<_, _≤_};
+ghost use lib.ListN.{length, getD};
+ghost use Rattle.laws.specs.Tabulate.{overwrite};
+ghost use Rattle.tables.specs.Terms.{Dims, cycles};
+ghost use Rattle.tables.specs.Format.{shapeOf};
+ghost use Rattle.tables.specs.Reading.{outcome, readLines, readOf};
+ghost use Rattle.tables.specs.Gathering.{faulty, Gather, Gathers, GathersAll, Markable, Marked};
+use crate::Opened;
+use crate::Reading;
+use crate::Shape;
+use crate::lines::line_at;
+use crate::lines::spare_used;
+use crate::opening::open;
+use refusal::Refusal;
+
+// Stands for no place and for no word.
+const NONE: u16 = 65535;
+
+// The most words of a frame.
+const MOST_WORDS: usize = 4096;
+
+pub enum Gathered {
+    All,
+    Refused(Refusal),
+}
+
+// Whether an address of a bank is outside the frame, or its word or place is marked.
+fn fault(addresses: &[u16], marks: &[u16], width: usize, cycles: usize) -> bool
+    requires { ⌜ (width ≤ length (now addresses)) × (width ≤ 64) × (cycles * width ≤ length (now marks)) ⌝ }
+    ensures { λ r. ⌜ r ≡ faulty (now (addresses .entry)) (now (marks .entry)) width cycles ⌝ }
+{
+    let mut b = 0;
+    while b < width {
+        let address = addresses[b] as usize;
+        if cycles <= address {
+            return true;
+        }
+        if marks[address * width + b] != NONE {
+            return true;
+        }
+        b += 1;
+    }
+    false
+}
+
+// The words that a line takes, with their places: word and place are marked with each other.
+fn mark<'a>(
+    reads: &'a [u16],
+    sources: &'a [u8],
+    writes: &'a [u16],
+    places: &mut [u16],
+    words: &mut [u16],
+    width: usize,
+)
+    requires { ⌜ Markable (now reads) (now sources) (now writes) (now places) (now words) width ⌝ }
+    ensures { λ _. ⌜ Marked (now (reads .entry)) (now (sources .entry)) (now (writes .entry)) width width (now (places .entry)) (now (words .entry)) (now (places .exit)) (now (words .exit)) ⌝ }
+{
+    let mut k = 0;
+    while k < width {
+        let b = sources[k] as usize;
+        let word = reads[b] as usize * width + b;
+        let place = writes[k] as usize * width + k;
+        places[word] = place as u16;
+        words[place] = word as u16;
+        k += 1;
+    }
+}
+
+// One line more, where it passes the tests.
+fn gather_line(
+    file: &[u8],
+    shape: Shape,
+    t: usize,
+    places: &mut [u16],
+    words: &mut [u16],
+) -> Gathered
+    requires { ⌜ (Dims (shape .words) (shape .width)) × (shape ≡ shapeOf (shape .words) (shape .width)) × (t < cycles (shape .words) (shape .width)) ⌝ }
+    requires { ⌜ Gather (shape .words) (shape .width) (now file) t (now places) (now words) ⌝ }
+    ensures { λ r. ⌜ Gathers (shape .words) (shape .width) (now (file .entry)) t r (now (places .exit)) (now (words .exit)) ⌝ }
+{
+    let moves = line_at(file, shape, t);
+    let reads = moves.reads;
+    let sources = moves.sources;
+    let writes = moves.writes;
+    if fault(&reads, places, shape.width, shape.cycles) {
+        return Gathered::Refused(Refusal::ReadAddress(t));
+    }
+    if spare_used(&sources, shape.width, shape.lines) {
+        return Gathered::Refused(Refusal::SpareLine(t));
+    }
+    if fault(&writes, words, shape.width, shape.cycles) {
+        return Gathered::Refused(Refusal::WriteAddress(t));
+    }
+    mark(&reads, &sources, &writes, places, words, shape.width);
+    Gathered::All
+}
+
+// The place of each word and the word of each place, over all lines. Only our own crates call it, with arrays that hold no marks.
+pub fn gather(file: &[u8], shape: Shape, places: &mut [u16], words: &mut [u16]) -> Gathered
+    requires { ⌜ (Dims (shape .words) (shape .width)) × (shape ≡ shapeOf (shape .words) (shape .width)) ⌝ }
+    requires { ⌜ Gather (shape .words) (shape .width) (now file) 0 (now places) (now words) ⌝ }
+    ensures { λ r. ⌜ GathersAll (shape .words) (shape .width) (now (file .entry)) r (now (places .exit)) (now (words .exit)) ⌝ }
+{
+    let cycles = shape.cycles;
+    let mut t = 0;
+    while t < cycles {
+        let gathered = gather_line(file, shape, t, places, words);
+        if let Gathered::Refused(refusal) = gathered {
+            return Gathered::Refused(refusal);
+        }
+        t += 1;
+    }
+    Gathered::All
+}
+
+// The first n images become the places.
+fn write_images(places: &[u16], images: &mut [u16], n: usize)
+    requires { ⌜ (n ≤ length (now places)) × (n ≤ length (now images)) ⌝ }
+    ensures { λ _. ⌜ now (images .exit) ≡ overwrite n (λ i. getD (now (places .entry)) i 0) (now (images .entry)) ⌝ }
+{
+    let mut i = 0;
+    while i < n {
+        images[i] = places[i];
+        i += 1;
+    }
+}
+
+// Reads a set of the right form.
+fn read_set(file: &[u8], shape: Shape, images: &mut [u16], scratch: &[u16]) -> Reading
+    requires { ⌜ (Dims (shape .words) (shape .width)) × (shape ≡ shapeOf (shape .words) (shape .width)) ⌝ }
+    ensures { λ r. ⌜ outcome r (now (images .exit)) ≡ readLines (shape .words) (shape .width) (now (file .entry)) (now (images .entry)) (now (scratch .entry)) ⌝ }
+{
+    let words = shape.words;
+    if images.len() < words {
+        return Reading::Refused(Refusal::BufferShort);
+    }
+    if scratch.len() < 2 * words {
+        return Reading::Refused(Refusal::BufferShort);
+    }
+    let mut place_of = [NONE; MOST_WORDS];
+    let mut word_of = [NONE; MOST_WORDS];
+    match gather(file, shape, &mut place_of, &mut word_of) {
+        Gathered::Refused(refusal) => Reading::Refused(refusal),
+        Gathered::All => {
+            write_images(&place_of, images, words);
+            Reading::Read(words, shape.width)
+        }
+    }
+}
+
+// Reads a set: n and w, and the permutation that it performs in the first n images. Scratch is lent and not written.
+pub fn read(file: &[u8], images: &mut [u16], scratch: &[u16]) -> Reading
+    ensures { λ r. ⌜ outcome r (now (images .exit)) ≡ readOf (now (file .entry)) (now (images .entry)) (now (scratch .entry)) ⌝ }
+{
+    match open(file) {
+        Opened::Refused(refusal) => Reading::Refused(refusal),
+        Opened::Set(shape) => read_set(file, shape, images, scratch),
+    }
+}

@@ -1,0 +1,117 @@
+// The lines of a set.
+ghost use mathlib.Core.Path.{_≡_};
+ghost use Prim.Native.Nat.{ℕ, _+_, _*_, _^_, _<_, _≤_};
+ghost use lib.Dec.{leb};
+ghost use lib.ListN.{length, getD};
+ghost use Rattle.laws.specs.Any.{any};
+ghost use Rattle.network.specs.Calls.{Sized};
+ghost use Rattle.tables.specs.Terms.{Dims, cycles};
+ghost use Rattle.tables.specs.Format.{shapeOf};
+ghost use Rattle.tables.specs.Lines.{Addresses, Switches, Sources, Line, spareUsed};
+use crate::Shape;
+use crate::Transfers;
+
+// The `count` addresses of `address` bits each that stand from bit `at` on.
+fn addresses(file: &[u8], at: usize, address: usize, count: usize) -> [u16; 64]
+    requires { ⌜ (address ≤ 16) × (count ≤ 64) × (at < 2 ^ 32) ⌝ }
+    ensures { λ r. ⌜ Addresses (now (file .entry)) at address count r ⌝ }
+{
+    let mut found = [0u16; 64];
+    let mut b = 0;
+    while b < count {
+        found[b] = bits::field_at(file, at + b * address, address);
+        b += 1;
+    }
+    found
+}
+
+// The `count` switch bits that stand from bit `at` on, taken eight at a time.
+fn switches(file: &[u8], at: usize, count: usize) -> [u8; 321]
+    requires { ⌜ (count ≤ 321) × (at < 2 ^ 32) ⌝ }
+    ensures { λ r. ⌜ Switches (now (file .entry)) at count r ⌝ }
+{
+    let mut found = [0u8; 321];
+    let mut eight: u16 = 0;
+    let mut i = 0;
+    while i < count {
+        if i % 8 == 0 {
+            eight = bits::field_at(file, at + i, 8);
+        }
+        found[i] = ((eight >> (7 - i % 8)) % 2) as u8;
+        i += 1;
+    }
+    found
+}
+
+// The line that leaves on each of `lines` lines of a network, whose `count` bits stand from bit `at` on.
+fn sources(file: &[u8], at: usize, lines: usize, count: usize) -> [u8; 64]
+    requires { ⌜ ((d : ℕ) × Sized lines count d) ⌝ }
+    requires { ⌜ (lines ≤ 64) × (count ≤ 321) × (at < 2 ^ 32) ⌝ }
+    ensures { λ r. ⌜ ((d : ℕ) → Sized lines count d → Sources d (now (file .entry)) at r) ⌝ }
+{
+    let found = switches(file, at, count);
+    let mut standing = numbered();
+    network::route(&found[..count], &mut standing[..lines]);
+    standing
+}
+
+// Each of 64 lines with its own number.
+fn numbered() -> [u8; 64]
+    ensures { λ r. ⌜ (length r ≡ 64) × ((x : ℕ) → x < 64 → getD r x 0 ≡ x) ⌝ }
+{
+    let mut standing = [0u8; 64];
+    let mut x = 0;
+    while x < 64 {
+        standing[x] = x as u8;
+        x += 1;
+    }
+    standing
+}
+
+// What line t of a set does. Only our own crates call it, with the shape of a set and one of its lines.
+pub fn line_at(file: &[u8], shape: Shape, t: usize) -> Transfers
+    requires { ⌜ (Dims (shape .words) (shape .width)) × (shape ≡ shapeOf (shape .words) (shape .width)) ⌝ }
+    requires { ⌜ t < cycles (shape .words) (shape .width) ⌝ }
+    ensures { λ r. ⌜ Line (shape .words) (shape .width) (now (file .entry)) t (r .reads) (r .sources) (r .writes) ⌝ }
+{
+    let at = shape.start + t * shape.stride;
+    let row = shape.width * shape.address;
+    let reads = addresses(file, at, shape.address, shape.width);
+    let standing = sources(file, at + row, shape.lines, shape.switches);
+    let writes = addresses(file, at + row + shape.switches, shape.address, shape.width);
+    Transfers {
+        reads,
+        sources: standing,
+        writes,
+    }
+}
+
+// Whether one of the first `count` addresses is `limit` or more. Only our own crates call it.
+pub fn any_from(addresses: &[u16], count: usize, limit: usize) -> bool
+    requires { ⌜ count ≤ length (now addresses) ⌝ }
+    ensures { λ r. ⌜ r ≡ any count (λ i. leb limit (getD (now (addresses .entry)) i 0)) ⌝ }
+{
+    let mut i = 0;
+    while i < count {
+        if limit <= addresses[i] as usize {
+            return true;
+        }
+        i += 1;
+    }
+    false
+}
+
+// Whether a line below `width` leaves on a spare line, from `width` to `lines`. Only our own crates call it.
+pub fn spare_used(sources: &[u8], width: usize, lines: usize) -> bool
+    requires { ⌜ (width ≤ lines) × (lines ≤ length (now sources)) ⌝ }
+    ensures { λ r. ⌜ r ≡ spareUsed (now (sources .entry)) width lines ⌝ }
+{
+    let mut y = width;
+    while y < lines {
+        if (sources[y] as usize) < width {
+            return true;
+        }
+        y += 1;
+    }
+    false
+}

@@ -1,0 +1,112 @@
+// The form of a file: its header, its length and its filling bits.
+ghost use mathlib.Core.Path.{_≡_};
+ghost use Prim.Native.Nat.{_+_, _*_, _%_, _<_, _≤_};
+ghost use lib.ListN.{length};
+ghost use Rattle.tables.specs.Terms.{Dims, logUp, fileLength};
+ghost use Rattle.tables.specs.Format.{shapeOf, lengthTest, openOf};
+use crate::Opened;
+use crate::Shape;
+use refusal::Refusal;
+
+// The most words of a frame and the most words of a cycle.
+const MOST_WORDS: usize = 4096;
+
+const MOST_WIDTH: usize = 64;
+
+// The bits of the header.
+const HEADER_BITS: usize = 24;
+
+// The least e with 2^e at least x.
+fn log_up(x: usize) -> usize
+    requires { ⌜ x ≤ 4096 ⌝ }
+    ensures { λ r. ⌜ r ≡ logUp x ⌝ }
+{
+    let mut e: usize = 0;
+    let mut power: usize = 1;
+    while power < x {
+        power = power * 2;
+        e += 1;
+    }
+    e
+}
+
+// The shape of a set of `words` words and width `width`. Only our own crates call it, with numbers that keep the limits.
+pub fn shape_of(words: usize, width: usize) -> Shape
+    requires { ⌜ Dims words width ⌝ }
+    ensures { λ r. ⌜ r ≡ shapeOf words width ⌝ }
+{
+    let cycles = words / width;
+    let address = log_up(cycles);
+    let depth = log_up(width);
+    let switches = network::bit_count(depth);
+    let row = width * address;
+    Shape {
+        words,
+        width,
+        cycles,
+        address,
+        lines: 1 << depth,
+        switches,
+        start: HEADER_BITS,
+        stride: row + (switches + row),
+    }
+}
+
+// The bytes of a set. Only our own crates call it, with the shape of one.
+pub fn file_length(shape: Shape) -> usize
+    requires { ⌜ (Dims (shape .words) (shape .width)) × (shape ≡ shapeOf (shape .words) (shape .width)) ⌝ }
+    ensures { λ r. ⌜ r ≡ fileLength (shape .words) (shape .width) ⌝ }
+{
+    3 + (shape.cycles * shape.stride + 7) / 8
+}
+
+// The tests of a whole file for its n and w.
+fn check_length(file: &[u8], words: usize, width: usize) -> Opened
+    requires { ⌜ Dims words width ⌝ }
+    ensures { λ r. ⌜ r ≡ lengthTest words width (now (file .entry)) ⌝ }
+{
+    let shape = shape_of(words, width);
+    let length = file_length(shape);
+    if file.len() < length {
+        return Opened::Refused(Refusal::FileShort);
+    }
+    if length < file.len() {
+        return Opened::Refused(Refusal::FileLong);
+    }
+    let end = shape.start + shape.cycles * shape.stride;
+    if bits::field_at(file, end, 8 * length - end) == 0 {
+        return Opened::Set(shape);
+    }
+    Opened::Refused(Refusal::FileLong)
+}
+
+// Whether a file has the form of a set, and its shape.
+pub fn open(file: &[u8]) -> Opened
+    ensures { λ r. ⌜ r ≡ openOf (now (file .entry)) ⌝ }
+{
+    if file.len() < 3 {
+        return Opened::Refused(Refusal::FileShort);
+    }
+    let words = bits::field_at(file, 0, 13) as usize;
+    let width = bits::field_at(file, 13, 7) as usize;
+    let zeros = bits::field_at(file, 20, 4);
+    if words < 1 {
+        return Opened::Refused(Refusal::Header);
+    }
+    if MOST_WORDS < words {
+        return Opened::Refused(Refusal::Header);
+    }
+    if width < 1 {
+        return Opened::Refused(Refusal::Header);
+    }
+    if MOST_WIDTH < width {
+        return Opened::Refused(Refusal::Header);
+    }
+    if words % width == 0 {
+        if zeros == 0 {
+            return check_length(file, words, width);
+        }
+        return Opened::Refused(Refusal::Header);
+    }
+    Opened::Refused(Refusal::Header)
+}
