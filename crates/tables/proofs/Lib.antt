@@ -1,21 +1,24 @@
-pub mod Examples
+-- The terms, and which files have the right form.
 pub mod Dims
 pub mod Longest
+pub mod Form
+-- Which sets are accepted, what their lines do to a frame, and that acceptance is exact.
 pub mod Accepted
 pub mod Moves
 pub mod Targets
 pub mod Within
 pub mod Performs
+pub mod Exact
+-- The set that given read lines determine: where its bits stand, and that it reads back.
 pub mod Packed
 pub mod SetBits
 pub mod Prefix
 pub mod ReadsBack
-pub mod Form
 pub mod Written
-pub mod Demand2
-pub mod Lined
-pub mod Marks
-pub mod Gathers
+-- What the code does, over the lists that it holds.
 pub mod Opens
 pub mod Scans
 pub mod Passes
+pub mod Lined
+pub mod Marks
+pub mod Gathers

@@ -55,7 +55,7 @@ add-place : tie.Need-add-place Inv-loop μ-loop
 add-place c = let s = c .before .before .before .before .before in let k = c .before .before .before .before .loop .k in omega (arith, s .pre .places-below k (omega arith))
 
 cast-places : tie.Need-cast-places Inv-loop μ-loop
-cast-places c = let s = c .before .before .before .before .before in let k = c .before .before .before .before .loop .k in omega (arith, s .pre .places-below k (omega arith))
+cast-places c = let s = c .before .before .before .before .before in let k = c .before .before .before .before .loop .k in omega (arith, s .pre .words-below k (omega arith), s .pre .places-below k (omega arith))
 
 mul-places : tie.Need-mul-places Inv-loop μ-loop
 mul-places c = let s = c .before .before .before .before .before in let k = c .before .before .before .before .loop .k in omega (arith, s .pre .words-below k (omega arith))
@@ -64,7 +64,7 @@ slice-write-places : tie.Need-slice-write-places Inv-loop μ-loop
 slice-write-places c = let s = c .before .before .before .before .before in let k = c .before .before .before .before .loop .k in omega (arith, s .pre .words-below k (omega arith), s .pre .places-long, c .before .before .before .before .loop .inv .1 .long)
 
 cast-words : tie.Need-cast-words Inv-loop μ-loop
-cast-words c = let s = c .before .before .before .before .before in let k = c .before .before .before .before .loop .k in omega (arith, s .pre .words-below k (omega arith))
+cast-words c = let s = c .before .before .before .before .before in let k = c .before .before .before .before .loop .k in omega (arith, s .pre .words-below k (omega arith), s .pre .places-below k (omega arith))
 
 mul-words : tie.Need-mul-words Inv-loop μ-loop
 mul-words c = let s = c .before .before .before .before .before in let k = c .before .before .before .before .loop .k in omega (arith, s .pre .places-below k (omega arith))
