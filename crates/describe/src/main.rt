@@ -1,0 +1,14 @@
+// Writes to standard output what the table set on standard input does.
+use libc::STDIN_FILENO;
+use libc::STDOUT_FILENO;
+
+fn main() {
+    // The longest set has 12,291 bytes. A longer input is cut here, and what is kept is still too long to be a set.
+    let mut file = [0u8; 16384];
+    let mut text = [0u8; 24000];
+    let read = io::read_full(STDIN_FILENO, &mut file);
+    let written = description::describe(&file[..read], &mut text);
+    if written <= text.len() {
+        io::write_all(STDOUT_FILENO, &text[..written]);
+    }
+}

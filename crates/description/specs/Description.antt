@@ -1,0 +1,65 @@
+-- The text that tells what a table set does (document 01, "Examples on each side"), as character codes.
+use Prim.Native.Nat.{ℕ, zero, suc, _+_, _/_, _%_}
+use mathlib.Core.List.{List, [], _∷_, _++_}
+use lib.ListN.{length, getD, replicate}
+use lib.Seq.{sets}
+use Rattle.laws.specs.Choice.{ifLt, ifEq}
+use Rattle.laws.specs.Permutation.{inverse}
+use Rattle.refusal.specs.Refusals.{numberOf}
+use Rattle.tables.specs.Reading.{Outcome, outcome, readOf}
+use Rattle.tables.specs.Generated.{joined}
+use Rattle.tables.specs.declared.Reading.the-variants.{Read, Refused}
+
+-- the decimal digit of x
+abbrev pub figure : ℕ → ℕ
+figure x = 48 + x % 10
+
+-- a number below 10,000 in base ten
+unfoldable pub decimal : ℕ → List ℕ
+decimal x =
+    ifLt x 10 (figure x ∷ [])
+    (ifLt x 100 (figure (x / 10) ∷ figure x ∷ [])
+    (ifLt x 1000 (figure (x / 100) ∷ figure (x / 10) ∷ figure x ∷ []) (figure (x / 1000) ∷ figure (x / 100) ∷ figure (x / 10) ∷ figure x ∷ [])))
+
+-- "words ", " width ", "refused "
+unfoldable pub wordsText : List ℕ
+wordsText = 119 ∷ 111 ∷ 114 ∷ 100 ∷ 115 ∷ 32 ∷ []
+
+unfoldable pub widthText : List ℕ
+widthText = 32 ∷ 119 ∷ 105 ∷ 100 ∷ 116 ∷ 104 ∷ 32 ∷ []
+
+unfoldable pub refusedText : List ℕ
+refusedText = 114 ∷ 101 ∷ 102 ∷ 117 ∷ 115 ∷ 101 ∷ 100 ∷ 32 ∷ []
+
+-- what stands behind the number at place j: a new line behind the last of a cycle, else a space
+unfoldable pub separator : ℕ → ℕ → ℕ
+separator w j = ifEq ((j + 1) % w) 0 10 32
+
+-- the numbers of the elements that leave, cycle by cycle
+unfoldable pub leavers : ℕ → ℕ → (ℕ → ℕ) → ℕ → List ℕ
+leavers n w word k = joined k (λ j. decimal (word j) ++ (separator w j ∷ []))
+
+-- a set of n words and width w, and a refusal's number
+unfoldable pub setText : ℕ → ℕ → List ℕ → List ℕ
+setText n w images =
+    wordsText ++ (decimal n ++ (widthText ++ (decimal w ++ (10 ∷ leavers n w (inverse n (λ i. getD images i 0)) n))))
+
+unfoldable pub refusalText : ℕ → List ℕ
+refusalText number = refusedText ++ (decimal number ++ (10 ∷ []))
+
+-- what reading says, in words
+unfoldable pub textOf : Outcome → List ℕ
+textOf (outcome (Read n w) images) = setText n w images
+textOf (outcome (Refused r) images) = refusalText (numberOf r)
+
+-- the description of a file, read with memory enough
+unfoldable pub descriptionOf : List ℕ → List ℕ
+descriptionOf file = textOf (readOf file (replicate 4096 0) (replicate 8192 0))
+
+-- an answer, with the lent text afterwards
+pub data Told : Type 0 where
+  told : ℕ → List ℕ → Told
+
+-- the call: the description's length, and its characters at the front of the text; 0 where the text has no room for the longest
+unfoldable pub tellOf : List ℕ → List ℕ → Told
+tellOf file text = ifLt (length text) 24000 (told 0 text) (told (length (descriptionOf file)) (sets text 0 (descriptionOf file)))
