@@ -1,0 +1,115 @@
+// The read lines of a set: line by line a perfect matching of what is left.
+ghost use mathlib.Core.Path.{_≡_};
+ghost use Prim.Native.Nat.{ℕ, _+_, _*_, _%_, _<_, _≤_};
+ghost use lib.ListN.{length, getD};
+ghost use Rattle.matching.specs.Graph.{Edge};
+ghost use Rattle.tables.specs.Terms.{Dims};
+ghost use Rattle.generator.specs.Schedule.{headAt, Linked, Drawn, Advanced, Takeable, Takes, Due, Took};
+use matching::MOST;
+use matching::complete;
+use matching::join;
+use matching::release;
+
+// Stands for no word.
+const NONE: u16 = 65535;
+
+// The heads: one for each bank and port.
+pub const HEADS: usize = 4096;
+
+// The image of word i.
+pub fn image(images: &[u16], i: usize) -> usize
+    requires { ⌜ i < length (now images) ⌝ }
+    ensures { λ r. ⌜ (r ≡ getD (now (images .entry)) i 0) × (r < 65536) ⌝ }
+{
+    images[i] as usize
+}
+
+// Chains the words of each bank and port from the lowest up, in the first n words of `next`, and gives the lowest of each.
+pub fn chain(images: &[u16], n: usize, w: usize, next: &mut [u16]) -> [u16; HEADS]
+    requires { ⌜ (Dims n w) × (n ≤ length (now images)) × (n ≤ length (now next)) ⌝ }
+    ensures { λ r. ⌜ Linked n w (λ i. getD (now (images .entry)) i 0) (now (next .entry)) (now (next .exit)) r ⌝ }
+{
+    let mut heads = [NONE; HEADS];
+    let mut i = n;
+    while 0 < i {
+        i -= 1;
+        let place = i % w * MOST + image(images, i) % w;
+        next[i] = heads[place];
+        heads[place] = i as u16;
+    }
+    heads
+}
+
+// The graph of the banks and ports that have a word left.
+pub fn graph(heads: &[u16; HEADS], w: usize) -> [u64; MOST]
+    requires { ⌜ (w ≤ 64) × (length (now heads) ≡ 4096) ⌝ }
+    ensures { λ r. ⌜ Drawn w (now (heads .entry)) r ⌝ }
+{
+    let mut edges = [0; MOST];
+    let mut place = 0;
+    while place < w * MOST {
+        if heads[place] != NONE {
+            join(&mut edges, place / MOST, place % MOST);
+        }
+        place += 1;
+    }
+    edges
+}
+
+// Takes the lowest word that is left for a port from its owner. Where it is the last, their edge goes.
+fn take_word(
+    next: &[u16],
+    heads: &mut [u16; HEADS],
+    edges: &mut [u64; MOST],
+    owner: &mut [u8; MOST],
+    port: usize,
+) -> u16
+    requires { ⌜ (length (now heads) ≡ 4096) × (length (now edges) ≡ 64) × (length (now owner) ≡ 64) × (port < 64) ⌝ }
+    requires { ⌜ (getD (now owner) port 0 < 64) × Edge (now edges) (getD (now owner) port 0) port × (headAt (now heads) (getD (now owner) port 0) port < length (now next)) ⌝ }
+    ensures { λ r. ⌜ Advanced (now (next .entry)) (now (heads .entry)) (now (edges .entry)) (now (owner .entry)) port r (now (heads .exit)) (now (edges .exit)) (now (owner .exit)) ⌝ }
+{
+    let place = owner[port] as usize * MOST + port;
+    let word = heads[place];
+    let after = next[word as usize];
+    heads[place] = after;
+    if after == NONE {
+        release(edges, owner, port);
+    }
+    word
+}
+
+// Takes a word for each port, where every port has an owner.
+fn take_words(
+    next: &[u16],
+    heads: &mut [u16; HEADS],
+    edges: &mut [u64; MOST],
+    owner: &mut [u8; MOST],
+    w: usize,
+) -> [u16; MOST]
+    requires { ⌜ Takeable (now next) (now heads) (now edges) (now owner) w ⌝ }
+    ensures { λ r. ⌜ Takes (now (next .entry)) (now (heads .entry)) (now (edges .entry)) (now (owner .entry)) w r (now (heads .exit)) (now (edges .exit)) (now (owner .exit)) ⌝ }
+{
+    let mut words = [NONE; MOST];
+    let mut k = 0;
+    while k < w {
+        words[k] = take_word(next, heads, edges, owner, k);
+        k += 1;
+    }
+    words
+}
+
+// Takes the next line: the word of port k is at k. Banks and ports all have one word left for each line left, so no bank is stuck.
+pub fn take_line(
+    next: &[u16],
+    heads: &mut [u16; HEADS],
+    edges: &mut [u64; MOST],
+    owner: &mut [u8; MOST],
+    w: usize,
+) -> [u16; MOST]
+    requires { ⌜ ((n : ℕ) × (p : ℕ → ℕ) × (reads : ℕ → ℕ → ℕ) × (t : ℕ) × Due n w p reads t (now next) (now heads) (now edges) (now owner)) ⌝ }
+    ensures { λ r. ⌜ ((n : ℕ) (p : ℕ → ℕ) (reads : ℕ → ℕ → ℕ) (t : ℕ) → Due n w p reads t (now (next .entry)) (now (heads .entry)) (now (edges .entry)) (now (owner .entry))
+        → Took n w p reads t r (now (heads .exit)) (now (edges .exit)) (now (owner .exit))) ⌝ }
+{
+    complete(edges, w, owner);
+    take_words(next, heads, edges, owner, w)
+}
