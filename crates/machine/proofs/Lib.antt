@@ -1,0 +1,15 @@
+pub mod Spots
+pub mod Stores
+pub mod Effects
+pub mod Clocks
+pub mod Cases
+pub mod NeverMeet
+pub mod Indexes
+pub mod Takes
+pub mod LineTests
+pub mod Runs
+pub mod Lines
+pub mod Frames
+pub mod Given
+pub mod Relation
+pub mod Theorem

@@ -1,0 +1,4 @@
+pub mod Devices
+pub mod Step
+pub mod Machine
+pub mod Plain

@@ -1,0 +1,35 @@
+-- The cycle machine as a device: it takes clock and memories as the step before returned or left them.
+use Prim.Native.Nat.{ℕ}
+use mathlib.Core.List.{List}
+use Rattle.refusal.specs.Refusals.{numberOf, placeOf}
+use Rattle.machine.specs.Devices.{Said, filling, wrote, refused, Seen, seen, Feed, feed, After}
+use Rattle.machine.specs.Step.{Outcome, outcome, stepOf}
+use Rattle.machine.specs.declared.Clock.{Clock}
+use Rattle.machine.specs.declared.Stepped.{Stepped}
+use Rattle.machine.specs.declared.Stepped.the-variants.{Filling, Wrote, Refused}
+
+pub record Card : Type 0 where
+  pub clock : Clock
+  pub first : List ℕ
+  pub second : List ℕ
+
+-- what an answer says, and the clock that it leaves; "a refused one leaves them as they were"
+unfoldable pub said : Stepped → Said
+said (Filling next) = filling
+said (Wrote next) = wrote
+said (Refused r) = refused (numberOf r) (placeOf r)
+
+unfoldable pub clockAfter : Stepped → Clock → Clock
+clockAfter (Filling next) clock = next
+clockAfter (Wrote next) clock = next
+clockAfter (Refused r) clock = clock
+
+unfoldable pub carded : Outcome → Clock → After Card
+carded (outcome answer first second out) clock = record {
+  state = record { clock = clockAfter answer clock; first = first; second = second };
+  shows = seen (said answer) out;
+}
+
+-- the machine on the set `file`
+unfoldable pub machine : List ℕ → Card → Feed → After Card
+machine file card (feed words out) = carded (stepOf file (card .clock) (card .first) (card .second) words out) (card .clock)
