@@ -6,3 +6,5 @@ pub mod Drawings
 pub mod Advances
 pub mod Extensions
 pub mod Taking
+pub mod Making
+pub mod Checking

@@ -15,7 +15,8 @@ use Rattle.images.specs.declared.Checked.{Checked}
 use Rattle.images.specs.declared.Checked.the-variants.{Permutation, Refused}
 use Rattle.images.specs.Images.{earlier, checkFrom, checkOf}
 
-not-refused : (r : Refusal) → Refused r ≡ Permutation → ⊥
+-- a refusal is no acceptance
+pub not-refused : (r : Refusal) → Refused r ≡ Permutation → ⊥
 not-refused r e = let z : _≡_ {A = ℕ} 0 1 = cc in omega arith
 
 module _ (images : List ℕ) where

@@ -1,0 +1,73 @@
+-- What the tests before the first written word let through: n and w keep their limits, enough is lent, and the images are a permutation.
+use Prim.Native.Nat.{ℕ, _%_, _≤_}
+use mathlib.Core.Path.{_≡_, refl, sym, ap, _∙_}
+use mathlib.Core.List.{List}
+use native.Mathlib.Omega.{arith}
+use lib.ListN.{length, getD}
+use Rattle.laws.specs.Choice.{ifLt, ifEq}
+use Rattle.laws.specs.Permutation.{Permutes}
+use Rattle.laws.proofs.Choices.{ifLt-cases, ifEq-cases}
+use Rattle.refusal.specs.declared.Refusal.{Refusal}
+use Rattle.images.specs.declared.Checked.{Checked}
+use Rattle.images.specs.declared.Checked.the-variants.{Permutation, Refused}
+use Rattle.images.specs.Images.{checkOf}
+use Rattle.images.proofs.Exact.{not-refused, check-permutes}
+use Rattle.tables.specs.Terms.{Dims, fileLength}
+use Rattle.generator.specs.Generating.{scratchNeed, checksOf, outcome, Filled, Generates}
+use Rattle.generator.specs.declared.Generation.the-variants.{Written, Refused as Unmade}
+
+pub record Passed (n w : ℕ) (images : List ℕ) (room scratch : ℕ) : Type 0 where
+  pub dims : Dims n w
+  pub listed : n ≤ length images
+  pub roomy : fileLength n w ≤ room
+  pub spacious : scratchNeed n ≤ scratch
+  pub permutes : Permutes n (λ i. getD images i 0)
+
+module _ (n w : ℕ) (images : List ℕ) (room scratch : ℕ) where
+  -- what follows from a test that passes
+  Leads : Checked → Type 0
+  Leads x = x ≡ Permutation → Passed n w images room scratch
+
+  turned : (r : Refusal) → Leads (Refused r)
+  unfolding Leads
+  turned r e = absurd (not-refused r e)
+
+  pub checks-passed : checksOf n w images room scratch ≡ Permutation → Passed n w images room scratch
+  unfolding checksOf Leads
+  checks-passed =
+      ifLt-cases Leads n 1 _ _ (λ _. turned _) λ some.
+      ifLt-cases Leads 4096 n _ _ (λ _. turned _) λ few.
+      ifLt-cases Leads w 1 _ _ (λ _. turned _) λ wide.
+      ifLt-cases Leads 64 w _ _ (λ _. turned _) λ narrow.
+      ifEq-cases Leads (n % w) 0 _ _
+      (λ even.
+      ifLt-cases Leads (length images) n _ _ (λ _. turned _) λ listed.
+      ifLt-cases Leads room (fileLength n w) _ _ (λ _. turned _) λ roomy.
+      ifLt-cases Leads scratch (scratchNeed n) _ _ (λ _. turned _) λ spacious e. record {
+        dims = record { some = some; few = few; wide = wide; narrow = narrow; even = even };
+        listed = listed;
+        roomy = roomy;
+        spacious = spacious;
+        permutes = check-permutes images n e;
+      })
+      (λ _. turned _)
+
+pub scratch-enough : {n w : ℕ} {images : List ℕ} {room scratch : ℕ} → Passed n w images room scratch → n ≤ scratch
+unfolding scratchNeed
+scratch-enough K = omega (arith, K .spacious)
+
+module _ {n w : ℕ} {images file scratch : List ℕ} where
+  pub generates-refused : {r : Refusal} → checksOf n w images (length file) (length scratch) ≡ Refused r
+      → Generates n w images file scratch (Unmade r) file scratch
+  generates-refused {r} h = record {
+    refused = λ x e.
+        let q : Refused r ≡ Refused x = sym h ∙ e in
+        let z : r ≡ x = cc in
+        ap (λ (y : Refusal). outcome (Unmade y) file scratch) z;
+    generated = λ e. absurd (not-refused r (sym h ∙ e));
+  }
+
+  pub generates-made : {length′ : ℕ} {file′ scratch′ : List ℕ} → checksOf n w images (length file) (length scratch) ≡ Permutation
+      → length′ ≡ fileLength n w → Filled n w images file scratch file′ scratch′
+      → Generates n w images file scratch (Written length′) file′ scratch′
+  generates-made h same F = record { refused = λ r e. absurd (not-refused r (sym e ∙ h)); generated = λ _. (ap Written same, F) }

@@ -1,0 +1,83 @@
+// The call "generating".
+ghost use mathlib.Core.Path.{_≡_};
+ghost use Prim.Native.Nat.{_≤_};
+ghost use lib.ListN.{length, getD};
+ghost use Rattle.laws.specs.Permutation.{Permutes};
+ghost use Rattle.tables.specs.Terms.{Dims, fileLength};
+ghost use Rattle.generator.specs.Generating.{checksOf, Filled, Generates};
+use crate::Generation;
+use crate::scheduling::chain;
+use crate::scheduling::graph;
+use crate::scheduling::take_line;
+use images::Checked;
+use matching::FREE;
+use matching::MOST;
+use refusal::Refusal;
+
+// The tests before the first lent word is written, with `room` bytes lent for the file and `scratch` scratch words.
+fn checks(n: usize, w: usize, images: &[u16], room: usize, scratch: usize) -> Checked
+    ensures { λ r. ⌜ r ≡ checksOf n w (now (images .entry)) room scratch ⌝ }
+{
+    if n < 1 {
+        return Checked::Refused(Refusal::FrameSize);
+    }
+    if 4096 < n {
+        return Checked::Refused(Refusal::FrameSize);
+    }
+    if w < 1 {
+        return Checked::Refused(Refusal::Width);
+    }
+    if 64 < w {
+        return Checked::Refused(Refusal::Width);
+    }
+    if n % w != 0 {
+        return Checked::Refused(Refusal::Uneven);
+    }
+    if images.len() < n {
+        return Checked::Refused(Refusal::BufferShort);
+    }
+    if room < tables::file_length(tables::shape_of(n, w)) {
+        return Checked::Refused(Refusal::BufferShort);
+    }
+    if scratch < 4 * n + 1024 {
+        return Checked::Refused(Refusal::BufferShort);
+    }
+    images::check(images, n)
+}
+
+// Writes the set of a permutation. The first n words of `next` hold the chains of words.
+fn make(images: &[u16], n: usize, w: usize, file: &mut [u8], next: &mut [u16]) -> usize
+    requires { ⌜ (Dims n w) × (n ≤ length (now images)) × (n ≤ length (now next)) × (fileLength n w ≤ length (now file)) ⌝ }
+    requires { ⌜ Permutes n (λ i. getD (now images) i 0) ⌝ }
+    ensures { λ r. ⌜ (r ≡ fileLength n w) × Filled n w (now (images .entry)) (now (file .entry)) (now (next .entry)) (now (file .exit)) (now (next .exit)) ⌝ }
+{
+    let shape = tables::shape_of(n, w);
+    packing::put_header(file, n, w);
+    let mut heads = chain(images, n, w, next);
+    let mut edges = graph(&heads, w);
+    let mut owner = [FREE; MOST];
+    let mut t = 0;
+    while t < shape.cycles {
+        let words = take_line(next, &mut heads, &mut edges, &mut owner, w);
+        packing::put_line(file, shape, t, packing::plan_of(images, &words, w));
+        t += 1;
+    }
+    packing::put_filling(file, shape);
+    tables::file_length(shape)
+}
+
+// A table set for a permutation, at the front of the file: its length, or a refusal.
+pub fn generate(
+    n: usize,
+    w: usize,
+    images: &[u16],
+    file: &mut [u8],
+    scratch: &mut [u16],
+) -> Generation
+    ensures { λ r. ⌜ Generates n w (now (images .entry)) (now (file .entry)) (now (scratch .entry)) r (now (file .exit)) (now (scratch .exit)) ⌝ }
+{
+    match checks(n, w, images, file.len(), scratch.len()) {
+        Checked::Refused(refusal) => Generation::Refused(refusal),
+        Checked::Permutation => Generation::Written(make(images, n, w, file, scratch)),
+    }
+}

@@ -1,0 +1,135 @@
+-- `plan_of` meets its contract: turn k fills what port k and its word determine.
+use Prim.Native.Nat.{ℕ, _-_, _%_, _≤_}
+use mathlib.Core.Path.{_≡_, refl}
+use native.Mathlib.Nat.{mod-lt, div-le-self}
+use native.Mathlib.Omega.{arith}
+use lib.ListN.{getD}
+use Rattle.packing.specs.Packing.{Planned}
+use Rattle.packing.proofs.Plans.{planned-none, planned-more}
+use borrow.Author.Needs.{needs}
+use Rattle.packing.proofs.plan_of.Statement.{statement}
+use Rattle.packing.proofs.plan_of.Tie as tie
+
+abbrev Inv-loop : tie.InvT-loop
+Inv-loop images words w reads₀ forward₀ back₀ writes₀ k₀ reads forward back writes k = (k ≤ w) × Planned w (λ i. getD images i 0) words k reads forward back writes
+
+abbrev μ-loop : tie.MeasureT-loop
+μ-loop images words w reads₀ forward₀ back₀ writes₀ k₀ reads forward back writes k = w - k
+
+straight-requires : tie.Need-straight-requires Inv-loop μ-loop
+straight-requires c κs = search needs
+
+straight-requires-2 : tie.Need-straight-requires-2 Inv-loop μ-loop
+straight-requires-2 c κs = search needs
+
+loop-holds : tie.Need-loop-holds Inv-loop μ-loop
+loop-holds c = (omega arith, planned-none _ _ _ (c .before .straight .ensures) (c .straight2 .ensures))
+
+mul-word : tie.Need-mul-word Inv-loop μ-loop
+mul-word c = search needs
+
+shared-slice-read-word : tie.Need-shared-slice-read-word Inv-loop μ-loop
+shared-slice-read-word c = search needs
+
+cast-word : tie.Need-cast-word Inv-loop μ-loop
+cast-word c = omega (arith, c .shared-slice-known3 .given (c .before .before .loop .k))
+
+rem-bank : tie.Need-rem-bank Inv-loop μ-loop
+rem-bank c = search needs
+
+div-reads : tie.Need-div-reads Inv-loop μ-loop
+div-reads c = search needs
+
+cast-reads : tie.Need-cast-reads Inv-loop μ-loop
+cast-reads c = omega (arith, c .shared-slice-known3 .given (c .before .before .loop .k), div-le-self (getD (c .before .before .before .before .before .before .before .args .words .now) (c .before .before .loop .k) 0) (c .before .before .before .before .before .before .before .args .w))
+
+mul-reads : tie.Need-mul-reads Inv-loop μ-loop
+mul-reads c = let s = c .before .before .before .before .before .before .before in let k = c .before .before .loop .k in omega (arith, mod-lt (getD (s .args .words .now) k 0) (s .pre .0 .0), s .pre .0)
+
+array-write-reads : tie.Need-array-write-reads Inv-loop μ-loop
+array-write-reads c = let s = c .before .before .before .before .before .before .before in let k = c .before .before .loop .k in omega (arith, mod-lt (getD (s .args .words .now) k 0) (s .pre .0 .0), s .pre .0)
+
+cast-forward : tie.Need-cast-forward Inv-loop μ-loop
+cast-forward c = search needs
+
+array-write-forward : tie.Need-array-write-forward Inv-loop μ-loop
+array-write-forward c = let s = c .before .before .before .before .before .before .before in let k = c .before .before .loop .k in omega (arith, mod-lt (getD (s .args .words .now) k 0) (s .pre .0 .0), s .pre .0)
+
+cast-back : tie.Need-cast-back Inv-loop μ-loop
+cast-back c = let s = c .before .before .before .before .before .before .before in let k = c .before .before .loop .k in omega (arith, mod-lt (getD (s .args .words .now) k 0) (s .pre .0 .0), s .pre .0)
+
+array-write-back : tie.Need-array-write-back Inv-loop μ-loop
+array-write-back c = search needs
+
+mul-writes : tie.Need-mul-writes Inv-loop μ-loop
+mul-writes c = omega (arith, c .shared-slice-known3 .given (c .before .before .loop .k))
+
+shared-slice-read-writes : tie.Need-shared-slice-read-writes Inv-loop μ-loop
+shared-slice-read-writes c = let s = c .before .before .before .before .before .before .before .before in s .pre .1 (c .before .before .before .loop .k) (omega arith)
+
+cast-writes : tie.Need-cast-writes Inv-loop μ-loop
+cast-writes c =
+    let s = c .before .before .before .before .before .before .before .before in
+    omega (arith, c .shared-slice-known4 .given (getD (s .args .words .now) (c .before .before .before .loop .k) 0))
+
+div-writes : tie.Need-div-writes Inv-loop μ-loop
+div-writes c = search needs
+
+cast-writes-2 : tie.Need-cast-writes-2 Inv-loop μ-loop
+cast-writes-2 c =
+    let s = c .before .before .before .before .before .before .before .before in
+    let i = getD (s .args .words .now) (c .before .before .before .loop .k) 0 in
+    omega (arith, c .shared-slice-known4 .given i, div-le-self (getD (s .args .images .now) i 0) (s .args .w))
+
+mul-writes-2 : tie.Need-mul-writes-2 Inv-loop μ-loop
+mul-writes-2 c = search needs
+
+array-write-writes : tie.Need-array-write-writes Inv-loop μ-loop
+array-write-writes c = search needs
+
+add-k : tie.Need-add-k Inv-loop μ-loop
+add-k c = search needs
+
+loop-less : tie.Need-loop-less Inv-loop μ-loop
+loop-less c = omega arith
+
+loop-again : tie.Need-loop-again Inv-loop μ-loop
+loop-again c =
+    let s = c .before .before .before .before .before .before .before .before in
+    (omega arith, planned-more (c .before .before .before .loop .inv .1) (s .pre .0 .0) (s .pre .0 .1) (c .before .before .loop-test .taken) (s .pre .0 .3))
+
+returns : tie.Need-returns Inv-loop μ-loop
+returns c = let s = c .before .before .before .before .before .before in let e : c .before .loop .k ≡ s .args .w = omega arith in rw e at (c .before .loop .inv .1)
+
+pub plan-of-spec : {M : Type 1} → statement M
+plan-of-spec =
+    tie.close
+    (tie.spec
+    Inv-loop
+    μ-loop
+    straight-requires
+    straight-requires-2
+    loop-holds
+    mul-word
+    shared-slice-read-word
+    cast-word
+    rem-bank
+    div-reads
+    cast-reads
+    mul-reads
+    array-write-reads
+    cast-forward
+    array-write-forward
+    cast-back
+    array-write-back
+    mul-writes
+    shared-slice-read-writes
+    cast-writes
+    div-writes
+    cast-writes-2
+    mul-writes-2
+    array-write-writes
+    add-k
+    loop-less
+    loop-again
+    returns)

@@ -1,0 +1,148 @@
+// Puts a table set into a lent buffer, part by part. Only our own crates call these functions, so they may have a `requires`.
+ghost use mathlib.Core.Path.{_≡_};
+ghost use Prim.Native.Nat.{ℕ, _+_, _*_, _^_, _%_, _<_, _≤_};
+ghost use lib.ListN.{length, getD, take};
+ghost use Rattle.laws.specs.Permutation.{Injective};
+ghost use Rattle.network.specs.Setting.{setting};
+ghost use Rattle.network.specs.Steps.{Inverses};
+ghost use Rattle.network.specs.Calls.{Sized};
+ghost use Rattle.tables.specs.Terms.{Dims, cycles, fileLength};
+ghost use Rattle.tables.specs.Format.{shapeOf};
+ghost use Rattle.packing.specs.Packing.{putFields, putHeader, putLine, putFilling, Planned, Ready};
+use tables::Shape;
+
+// What one line of a set is to do.
+pub struct Plan {
+    // The address that each bank of the first memory reads.
+    pub reads: [u16; 64],
+    // The line on which each line of the network leaves, and the other way round.
+    pub forward: [u8; 64],
+    pub back: [u8; 64],
+    // The address that each bank of the second memory writes.
+    pub writes: [u16; 64],
+}
+
+// The first `count` values in fields of `width` bits from bit `at` on.
+fn put_addresses(file: &mut [u8], at: usize, width: usize, values: &[u16], count: usize)
+    requires { ⌜ (width ≤ 16) × (count ≤ length (now values)) × (count ≤ 64) × (at + count * width ≤ 8 * length (now file)) × (at < 2 ^ 32) ⌝ }
+    requires { ⌜ ((i : ℕ) → i < count → getD (now values) i 0 < 2 ^ width) ⌝ }
+    ensures { λ _. ⌜ now (file .exit) ≡ putFields (now (file .entry)) at width (now (values .entry)) count ⌝ }
+{
+    let mut i = 0;
+    while i < count {
+        bits::put_field(file, at + i * width, width, values[i]);
+        i += 1;
+    }
+}
+
+// The bits from bit `at` on.
+fn put_bits(file: &mut [u8], at: usize, values: &[u8])
+    requires { ⌜ (at + length (now values) ≤ 8 * length (now file)) × (at < 2 ^ 32) × (length (now values) ≤ 321) ⌝ }
+    requires { ⌜ ((i : ℕ) → i < length (now values) → getD (now values) i 0 < 2) ⌝ }
+    ensures { λ _. ⌜ now (file .exit) ≡ putFields (now (file .entry)) at 1 (now (values .entry)) (length (now (values .entry))) ⌝ }
+{
+    let mut i = 0;
+    while i < values.len() {
+        bits::put_field(file, at + i, 1, values[i] as u16);
+        i += 1;
+    }
+}
+
+// The header.
+pub fn put_header(file: &mut [u8], words: usize, width: usize)
+    requires { ⌜ (Dims words width) × (3 ≤ length (now file)) ⌝ }
+    ensures { λ _. ⌜ now (file .exit) ≡ putHeader (now (file .entry)) words width ⌝ }
+{
+    bits::put_field(file, 0, 13, words as u16);
+    bits::put_field(file, 13, 7, width as u16);
+    bits::put_field(file, 20, 4, 0);
+}
+
+// Zeros behind the last line, up to a whole byte.
+pub fn put_filling(file: &mut [u8], shape: Shape)
+    requires { ⌜ (Dims (shape .words) (shape .width)) × (shape ≡ shapeOf (shape .words) (shape .width)) ⌝ }
+    requires { ⌜ fileLength (shape .words) (shape .width) ≤ length (now file) ⌝ }
+    ensures { λ _. ⌜ now (file .exit) ≡ putFilling (shape .words) (shape .width) (now (file .entry)) ⌝ }
+{
+    let end = shape.start + shape.cycles * shape.stride;
+    bits::put_field(file, end, 8 * tables::file_length(shape) - end, 0);
+}
+
+// Each of 64 lines with its own number.
+fn straight() -> [u8; 64]
+    ensures { λ r. ⌜ (length r ≡ 64) × ((x : ℕ) → x < 64 → getD r x 0 ≡ x) ⌝ }
+{
+    let mut lines = [0u8; 64];
+    let mut x = 0;
+    while x < 64 {
+        lines[x] = x as u8;
+        x += 1;
+    }
+    lines
+}
+
+// The line in which the word of port k is `words[k]`.
+pub fn plan_of(images: &[u16], words: &[u16], w: usize) -> Plan
+    requires { ⌜ (0 < w) × (w ≤ 64) × (w ≤ length (now words)) × Injective w (λ k. getD (now words) k 0 % w) ⌝ }
+    requires { ⌜ ((k : ℕ) → k < w → getD (now words) k 0 < length (now images)) ⌝ }
+    ensures { λ r. ⌜ Planned w (λ i. getD (now (images .entry)) i 0) (now (words .entry)) w (r .reads) (r .forward) (r .back) (r .writes) ⌝ }
+{
+    let mut reads = [0u16; 64];
+    let mut forward = straight();
+    let mut back = straight();
+    let mut writes = [0u16; 64];
+    let mut k = 0;
+    while k < w {
+        let word = words[k] as usize;
+        let bank = word % w;
+        reads[bank] = (word / w) as u16;
+        forward[bank] = k as u8;
+        back[k] = bank as u8;
+        writes[k] = (images[word] as usize / w) as u16;
+        k += 1;
+    }
+    Plan {
+        reads,
+        forward,
+        back,
+        writes,
+    }
+}
+
+// The `count` bits of the network that carries its lines as `forward` says.
+fn switches_of(forward: &[u8], back: &[u8], count: usize) -> [u8; 321]
+    requires { ⌜ ((d : ℕ) × Sized (length (now forward)) count d) ⌝ }
+    requires { ⌜ (length (now forward) ≤ 64) × (count ≤ 321) × Inverses (now forward) (now back) ⌝ }
+    ensures { λ r. ⌜ (length r ≡ 321) × ((d : ℕ) → Sized (length (now (forward .entry))) count d → take count r ≡ setting d (λ i. getD (now (forward .entry)) i 0)) ⌝ }
+{
+    let mut switches = [0u8; 321];
+    network::set_bits(forward, back, &mut switches[..count]);
+    switches
+}
+
+// Line t.
+pub fn put_line(file: &mut [u8], shape: Shape, t: usize, line: Plan)
+    requires { ⌜ (Dims (shape .words) (shape .width)) × (shape ≡ shapeOf (shape .words) (shape .width)) × (t < cycles (shape .words) (shape .width)) ⌝ }
+    requires { ⌜ fileLength (shape .words) (shape .width) ≤ length (now file) ⌝ }
+    requires { ⌜ Ready (shape .words) (shape .width) (line .reads) (line .forward) (line .back) (line .writes) ⌝ }
+    ensures { λ _. ⌜ now (file .exit) ≡ putLine (shape .words) (shape .width) (now (file .entry)) t (line .reads) (line .forward) (line .writes) ⌝ }
+{
+    let at = shape.start + t * shape.stride;
+    let row = shape.width * shape.address;
+    let forward = line.forward;
+    let back = line.back;
+    let switches = switches_of(
+        &forward[..shape.lines],
+        &back[..shape.lines],
+        shape.switches,
+    );
+    put_addresses(file, at, shape.address, &line.reads, shape.width);
+    put_bits(file, at + row, &switches[..shape.switches]);
+    put_addresses(
+        file,
+        at + row + shape.switches,
+        shape.address,
+        &line.writes,
+        shape.width,
+    );
+}

@@ -1,0 +1,83 @@
+-- Demand 3, the machine: for every permutation of n words and every width that divides n a set is generated, and over any list of steps on
+-- it, refused ones included, the cycle machine and the plain rule show the same. All over `Generates`, which the contract of
+-- `generator::generate` cites, and `machine`, which is made of `stepOf`, which the contract of `machine::step` cites.
+use Prim.Native.Nat.{ℕ, suc, _+_, _*_, _≤_}
+use mathlib.Core.Path.{_≡_, refl, sym, ap, subst, _∙_}
+use mathlib.Core.List.{List, [], _∷_, _++_}
+use lib.ListN.{length, getD, take, drop}
+use Rattle.laws.specs.Tabulate.{overwrite}
+use Rattle.laws.specs.Permutation.{Permutes}
+use Rattle.laws.proofs.Choices.{ifLt-no, ifEq-yes}
+use Rattle.images.specs.declared.Checked.the-variants.{Permutation}
+use Rattle.images.proofs.Exact.{permutes-check}
+use Rattle.tables.specs.Terms.{Dims, fileLength}
+use Rattle.tables.specs.Generated.{setOf}
+use Rattle.tables.specs.Reading.{outcome, readOf}
+use Rattle.tables.specs.declared.Reading.the-variants.{Read}
+use Rattle.tables.proofs.SetBits.{length-setOf}
+use Rattle.tables.proofs.Exact.{generated-reads}
+use Rattle.machine.specs.Devices.{Feed, run}
+use Rattle.machine.specs.Step.{fresh}
+use Rattle.machine.specs.Machine.{Card, machine}
+use Rattle.machine.specs.Plain.{plain, empty}
+use Rattle.machine.proofs.Theorem.{generated-is-plain}
+use Rattle.generator.specs.Generating.{scratchNeed, checksOf, Filled, Generates}
+use Rattle.generator.specs.declared.Generation.{Generation}
+use Rattle.generator.specs.declared.Generation.the-variants.{Written}
+
+-- the images are a permutation for n and w within their limits, and enough memory is lent
+pub record Ordered (n w : ℕ) (images : List ℕ) (room scratch : ℕ) : Type 0 where
+  pub dims : Dims n w
+  pub permutes : Permutes n (λ i. getD images i 0)
+  pub listed : n ≤ length images
+  pub roomy : fileLength n w ≤ room
+  pub spacious : scratchNeed n ≤ scratch
+
+-- what the answer of generating and the lent file afterwards are good for
+pub record Good (n w : ℕ) (images : List ℕ) (answer : Generation) (made : List ℕ) : Type 0 where
+  -- a set is generated; `made` is as many bytes as the answer says
+  pub accepted : answer ≡ Written (length made)
+  pub long : length made ≡ fileLength n w
+  -- it reads as the permutation
+  pub reads : (out scratch : List ℕ) → n ≤ length out → 2 * n ≤ length scratch
+      → readOf made out scratch ≡ outcome (Read n w) (overwrite n (λ i. getD images i 0) out)
+  -- and over any list of steps, from a fresh clock and two memories of 2n words or more that hold anything, the machine is the plain rule
+  pub streams : (first second : List ℕ) → 2 * n ≤ length first → 2 * n ≤ length second → (steps : List Feed)
+      → run (machine made) (record { clock = fresh; first = first; second = second }) steps ≡ run (plain n w (λ i. getD images i 0)) empty steps
+
+abbrev pub Streaming : Type 0
+Streaming = (n w : ℕ) (images file scratch : List ℕ) (answer : Generation) (file′ scratch′ : List ℕ)
+    → Ordered n w images (length file) (length scratch) → Generates n w images file scratch answer file′ scratch′
+    → Good n w images answer (take (fileLength n w) file′)
+
+-- no such call is refused
+ordered-checks : {n w : ℕ} {images : List ℕ} {room scratch : ℕ} → Ordered n w images room scratch
+    → checksOf n w images room scratch ≡ Permutation
+unfolding checksOf
+ordered-checks {n} {w} {images} R =
+    let d = R .dims in
+    sym (ifLt-no _ _ _ _ _ (d .some) (ifLt-no _ _ _ _ _ (d .few) (ifLt-no _ _ _ _ _ (d .wide) (ifLt-no _ _ _ _ _ (d .narrow)
+    (ifEq-yes _ _ _ _ _ (d .even) (ifLt-no _ _ _ _ _ (R .listed) (ifLt-no _ _ _ _ _ (R .roomy) (ifLt-no _ _ _ _ _ (R .spacious)
+    (sym (permutes-check images n (R .permutes)))))))))))
+
+-- the front of two lists
+take-front : (xs ys : List ℕ) → take (length xs) (xs ++ ys) ≡ xs
+take-front [] ys = refl
+take-front (x ∷ xs) ys = ap (λ (r : List ℕ). x ∷ r) (take-front xs ys)
+
+pub demand-3 : Streaming
+demand-3 n w images file scratch answer file′ scratch′ R G =
+    let A = G .generated (ordered-checks R) in
+    let F = A .1 in
+    let p : ℕ → ℕ = λ i. getD images i 0 in
+    let long : length (setOf n w p (F .reads)) ≡ fileLength n w = length-setOf n w p (F .reads) in
+    let rest : List ℕ = drop (fileLength n w) file in
+    let made : take (fileLength n w) file′ ≡ setOf n w p (F .reads) =
+    ap (take (fileLength n w)) (F .written)
+    ∙ subst (λ (z : ℕ). take z (setOf n w p (F .reads) ++ rest) ≡ setOf n w p (F .reads)) long (take-front (setOf n w p (F .reads)) rest) in
+    rw made (record {
+      accepted = A .0 ∙ ap Written (sym long);
+      long = long;
+      reads = λ out memory l m. generated-reads out memory (R .dims) (R .permutes) (F .schedule) l m;
+      streams = generated-is-plain (R .dims) (R .permutes) (F .schedule);
+    })
