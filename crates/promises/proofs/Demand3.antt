@@ -15,15 +15,24 @@ use Rattle.tables.specs.Generated.{setOf}
 use Rattle.tables.specs.Reading.{outcome, readOf}
 use Rattle.tables.specs.declared.Reading.the-variants.{Read}
 use Rattle.tables.proofs.SetBits.{length-setOf}
-use Rattle.tables.proofs.Exact.{generated-reads}
+use Rattle.tables.proofs.Exact.{read-performs, generated-reads}
 use Rattle.machine.specs.Devices.{Feed, run}
 use Rattle.machine.specs.Step.{fresh}
 use Rattle.machine.specs.Machine.{Card, machine}
 use Rattle.machine.specs.Plain.{plain, empty}
-use Rattle.machine.proofs.Theorem.{generated-is-plain}
+use Rattle.machine.proofs.Theorem.{machine-is-plain, generated-is-plain}
 use Rattle.generator.specs.Generating.{scratchNeed, checksOf, Filled, Generates}
 use Rattle.generator.specs.declared.Generation.{Generation}
 use Rattle.generator.specs.declared.Generation.the-variants.{Written}
+
+-- every set that reads as some permutation, lent exactly: over any list of steps, from a fresh clock and two memories of 2n words or more
+-- that hold anything, the machine is the plain rule for that permutation
+pub sets-stream : (file images scratch images′ : List ℕ) {n w : ℕ} → readOf file images scratch ≡ outcome (Read n w) images′
+    → (first second : List ℕ) → 2 * n ≤ length first → 2 * n ≤ length second → (steps : List Feed)
+    → run (machine file) (record { clock = fresh; first = first; second = second }) steps ≡ run (plain n w (λ i. getD images′ i 0)) empty steps
+sets-stream file images scratch images′ h =
+    let known = read-performs file images scratch h in
+    machine-is-plain file (λ i. getD images′ i 0) (known .opened) (known .performs)
 
 -- the images are a permutation for n and w within their limits, and enough memory is lent
 pub record Ordered (n w : ℕ) (images : List ℕ) (room scratch : ℕ) : Type 0 where
