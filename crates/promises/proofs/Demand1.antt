@@ -1,0 +1,184 @@
+-- Demand 1, lent memory: every call ends with a result or a refusal. A refused call leaves every lent word as it was, and an accepted one
+-- alters only the words that it names, the first so many of a list. All over the definitions that the contracts of the calls cite. A list that
+-- is not named here is lent as a shared slice, which no call can write; so is all that `follow` is lent.
+use Prim.Native.Nat.{ℕ, _+_, _*_, _-_, _≤_, _<_}
+use mathlib.Core.Path.{_≡_, refl, sym, ap, _∙_}
+use mathlib.Core.List.{List, _++_}
+use mathlib.Core.Logic.{_⊎_, inl, inr, ⊎-elim}
+use native.Mathlib.Omega.{arith}
+use lib.ListN.{length, getD, drop, length-append, length-drop}
+use lib.Seq.{getD-drop}
+use Rattle.laws.specs.Choice.{ifLt, ifEq, choose}
+use Rattle.laws.specs.Tabulate.{overwrite}
+use Rattle.laws.proofs.Choices.{ifLt-cases, ifLe-cases, ifEq-cases, choose-cases}
+use Rattle.laws.proofs.Tabulates.{length-overwrite, getD-overwrite-past}
+use Rattle.refusal.specs.declared.Refusal.{Refusal}
+use Rattle.images.specs.Images.{checkOf}
+use Rattle.images.specs.declared.Checked.{Checked}
+use Rattle.images.specs.declared.Checked.the-variants.{Permutation, Refused as Unfit}
+use Rattle.network.specs.Network.{bitCount}
+use Rattle.network.specs.Setting.{setting}
+use Rattle.network.specs.Calls.{depthOf, Outcome, outcome, written, setOf}
+use Rattle.tables.specs.Terms.{Dims, cycles, fileLength}
+use Rattle.tables.specs.Format.{headerWords, headerWidth, shapeOf, openOf}
+use Rattle.tables.specs.Datapath.{readStrays, carryStrays, writeStrays, strays}
+use Rattle.tables.specs.Reading.{readOf, outcome as read}
+use Rattle.tables.specs.Generated.{setOf as generatedSet}
+use Rattle.tables.specs.declared.Opened.the-variants.{Set, Refused as Unopened}
+use Rattle.tables.specs.declared.Reading.the-variants.{Read, Refused as Unread}
+use Rattle.tables.proofs.Form.{Form, open-cases}
+use Rattle.tables.proofs.Packed.{getD-behind}
+use Rattle.tables.proofs.SetBits.{length-setOf}
+use Rattle.tables.proofs.Within.{strays-within}
+use Rattle.tables.proofs.Exact.{read-cases}
+use Rattle.generator.specs.Generating.{checksOf, Generates}
+use Rattle.generator.proofs.Checking.{checks-passed}
+use Rattle.generator.specs.declared.Generation.{Generation}
+use Rattle.generator.specs.declared.Generation.the-variants.{Written as Made, Refused as Unmade}
+use Rattle.machine.specs.Step.{leaving, moving, entering, accepted, lineTest, clockTest, stepLine, stepOpened, stepOf, Outcome as StepOutcome, outcome as stepped}
+use Rattle.machine.specs.declared.Clock.{Clock}
+use Rattle.machine.specs.declared.Stepped.{Stepped}
+use Rattle.machine.specs.declared.Stepped.the-variants.{Refused as Unstepped}
+use Rattle.machine.proofs.Effects.{length-entering, entering-behind, length-moving, moving-behind}
+use Rattle.network.specs.declared.setting.Setting.the-variants.{Written, Refused as Unset}
+
+-- after a call only the first k words of a list may differ
+pub record Only (k : ℕ) (before after : List ℕ) : Type 0 where
+  pub long : length after ≡ length before
+  pub behind : (i : ℕ) → k ≤ i → getD after i 0 ≡ getD before i 0
+
+pub only-none : {k : ℕ} {xs : List ℕ} → Only k xs xs
+only-none = record { long = refl; behind = λ i l. refl }
+
+pub only-overwrite : (k : ℕ) (f : ℕ → ℕ) (xs : List ℕ) → k ≤ length xs → Only k xs (overwrite k f xs)
+only-overwrite k f xs l = record { long = length-overwrite k f xs l; behind = λ i m. getD-overwrite-past k f xs i 0 m }
+
+-- setting a network
+pub SetLends : ℕ → List ℕ → Outcome → Type 0
+SetLends width values o =
+    ((r : Refusal) × (o ≡ outcome (Unset r) values))
+    ⊎ ((after : List ℕ) × (o ≡ outcome (Written (bitCount (depthOf width))) after) × Only (bitCount (depthOf width)) values after)
+
+set-written : (width : ℕ) (images values : List ℕ) (x : Checked) → bitCount (depthOf width) ≤ length values
+    → SetLends width values (written x (depthOf width) images values)
+unfolding SetLends written
+set-written width images values (Unfit r) l = inl (r, refl)
+set-written width images values Permutation l =
+    inr (_, refl, only-overwrite (bitCount (depthOf width)) (λ i. getD (setting (depthOf width) (λ x. getD images x 0)) i 0) values l)
+
+pub set-lends : (width : ℕ) (images values : List ℕ) → SetLends width values (setOf width images values)
+unfolding SetLends setOf
+set-lends width images values =
+    ifLt-cases (SetLends width values) 6 (depthOf width) _ _ (λ _. inl (_, refl)) λ _.
+    ifLt-cases (SetLends width values) (length images) width _ _ (λ _. inl (_, refl)) λ _.
+    ifLt-cases (SetLends width values) (length values) (bitCount (depthOf width)) _ _ (λ _. inl (_, refl)) λ room.
+    set-written width images values (checkOf images width) room
+
+-- reading a set: scratch is a shared slice
+pub read-lends : (file images scratch : List ℕ)
+    → ((r : Refusal) × (readOf file images scratch ≡ read (Unread r) images))
+    ⊎ ((n : ℕ) × (w : ℕ) × (after : List ℕ) × (readOf file images scratch ≡ read (Read n w) after) × Only n images after)
+read-lends file images scratch =
+    ⊎-elim (λ r. inr (
+      r .0,
+      r .1,
+      r .2,
+      r .3,
+      rw (r .4 .written) (only-overwrite (r .0) (λ i. getD (r .2) i 0) images (r .4 .room)),
+    )) (λ r. inl r) (read-cases file images scratch)
+
+-- a list whose front is replaced
+only-front : (k : ℕ) (front xs : List ℕ) → length front ≡ k → k ≤ length xs → Only k xs (front ++ drop k xs)
+only-front k front xs long l = record {
+  long = simp (length-append, length-drop) (omega (arith, long));
+  behind = λ i m.
+      let e : k + (i - k) ≡ i = omega arith in
+      rw e at (getD-behind front (drop k xs) k (i - k) 0 long ∙ getD-drop k xs (i - k) 0);
+}
+
+-- generating a set: n scratch words may hold anything afterwards, fewer than the 4n + 1,024 that are lent
+module _ (n w : ℕ) (images file scratch : List ℕ) (answer : Generation) (file′ scratch′ : List ℕ)
+    (G : Generates n w images file scratch answer file′ scratch′) where
+  abbrev pub GenerateLends : Type 0
+  GenerateLends =
+      ((r : Refusal) × (answer ≡ Unmade r) × (file′ ≡ file) × (scratch′ ≡ scratch))
+      ⊎ ((answer ≡ Made (fileLength n w)) × Only (fileLength n w) file file′ × Only n scratch scratch′)
+
+  generate-told : (x : Checked) → checksOf n w images (length file) (length scratch) ≡ x → GenerateLends
+  generate-told (Unfit r) h =
+      let e = G .refused r h in
+      let a : answer ≡ Unmade r = cc e in
+      let f : file′ ≡ file = cc e in
+      let s : scratch′ ≡ scratch = cc e in
+      inl (r, a, f, s)
+  generate-told Permutation h =
+      let A = G .generated h in
+      let F = A .1 in
+      let p : ℕ → ℕ = λ i. getD images i 0 in
+      inr (
+        A .0,
+        rw (F .written) (only-front (fileLength n w) (generatedSet n w p (F .reads)) file (length-setOf n w p (F .reads)) (checks-passed n w images (length file) (length scratch) h .roomy)),
+        record { long = F .scratch-long; behind = F .scratch-kept },
+      )
+
+  pub generate-lends : GenerateLends
+  generate-lends = generate-told (checksOf n w images (length file) (length scratch)) refl
+
+-- a step
+module _ (file : List ℕ) (clock : Clock) (first second words out : List ℕ) where
+  -- what an accepted step on a set of n words and width w alters
+  pub record Moved (n w : ℕ) (first′ second′ out′ : List ℕ) : Type 0 where
+    pub opened : openOf file ≡ Set (shapeOf n w)
+    pub first-only : Only (2 * n) first first′
+    pub second-only : Only (2 * n) second second′
+    pub out-only : Only w out out′
+
+  pub StepLends : StepOutcome → Type 0
+  StepLends o =
+      ((r : Refusal) × (o ≡ stepped (Unstepped r) first second out))
+      ⊎ ((n : ℕ) × (w : ℕ) × (answer : Stepped) × (first′ : List ℕ) × (second′ : List ℕ) × (out′ : List ℕ)
+      × (o ≡ stepped answer first′ second′ out′) × Moved n w first′ second′ out′)
+
+  step-set : (n w : ℕ) → openOf file ≡ Set (shapeOf n w) → Dims n w → StepLends (stepLine n w file clock first second words out)
+  unfolding StepLends stepLine clockTest lineTest accepted strays
+  step-set n w opened D =
+      ifLt-cases StepLends (length first) (2 * n) _ _ (λ _. inl (_, refl)) λ long.
+      ifLt-cases StepLends (length second) (2 * n) _ _ (λ _. inl (_, refl)) λ long′.
+      ifLt-cases StepLends (length out) w _ _ (λ _. inl (_, refl)) λ room.
+      ifEq-cases StepLends (length words) w _ _ (λ wide.
+      ifLe-cases StepLends (cycles n w) (clock .cycle) _ _ (λ _. inl (_, refl)) λ cycle.
+      ifLt-cases StepLends 1 (clock .half) _ _ (λ _. inl (_, refl)) λ half.
+      ifLt-cases StepLends 2 (clock .fill) _ _ (λ _. inl (_, refl)) λ fill.
+      let one : clock .half < 2 = omega arith in
+      let taken : Only (2 * n) first (entering (cycles n w) clock words w first) = record {
+        long = length-entering (cycles n w) clock words w first;
+        behind = entering-behind D clock one cycle words first;
+      } in
+      let given : Only w out (ifLt (clock .fill) 2 out (overwrite w (leaving (cycles n w) clock second) out)) =
+      ifLt-cases (Only w out) (clock .fill) 2 _ _ (λ _. only-none) (λ _. only-overwrite w (leaving (cycles n w) clock second) out room) in
+      let through : (1 ≤ clock .fill → Only (2 * n) second (moving n w file clock first w second))
+      → Only (2 * n) second (ifLt (clock .fill) 1 second (moving n w file clock first w second)) = λ moves.
+      ifLt-cases (Only (2 * n) second) (clock .fill) 1 _ _ (λ _. only-none) (λ some. moves some) in
+      let done : (1 ≤ clock .fill → Only (2 * n) second (moving n w file clock first w second))
+      → StepLends (accepted n w file clock first second words out) = λ moves.
+      inr (n, w, _, _, _, _, refl, record { opened = opened; first-only = taken; second-only = through moves; out-only = given }) in
+      ifLt-cases StepLends (clock .fill) 1 _ _ (λ none. done (λ some. absurd (omega arith))) λ some.
+      choose-cases StepLends (readStrays n w file (clock .cycle)) _ _ (λ _. inl (_, refl)) λ reads.
+      choose-cases StepLends (carryStrays n w file (clock .cycle)) _ _ (λ _. inl (_, refl)) λ carries.
+      choose-cases StepLends (writeStrays n w file (clock .cycle)) _ _ (λ _. inl (_, refl)) λ writes.
+      done (λ _. record {
+        long = length-moving n w file clock second first;
+        behind = moving-behind D clock one (strays-within n w file (clock .cycle) (rw (reads, carries) writes)) first second;
+      })) (λ _. inl (_, refl))
+
+  step-refused : (r : Refusal) → StepLends (stepped (Unstepped r) first second out)
+  unfolding StepLends
+  step-refused r = inl (r, refl)
+
+  pub step-lends : StepLends (stepOf file clock first second words out)
+  unfolding stepOf stepOpened shapeOf
+  step-lends =
+      ⊎-elim
+      (λ r. rw (r .0) (step-set (headerWords file) (headerWidth file) (r .0) (r .1 .dims)))
+      (λ r. rw (r .1) (step-refused (r .0)))
+      (open-cases file)
