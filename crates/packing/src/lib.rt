@@ -68,19 +68,6 @@ pub fn put_filling(file: &mut [u8], shape: Shape)
     bits::put_field(file, end, 8 * tables::file_length(shape) - end, 0);
 }
 
-// Each of 64 lines with its own number.
-fn straight() -> [u8; 64]
-    ensures { λ r. ⌜ (length r ≡ 64) × ((x : ℕ) → x < 64 → getD r x 0 ≡ x) ⌝ }
-{
-    let mut lines = [0u8; 64];
-    let mut x = 0;
-    while x < 64 {
-        lines[x] = x as u8;
-        x += 1;
-    }
-    lines
-}
-
 // The line in which the word of port k is `words[k]`.
 pub fn plan_of(images: &[u16], words: &[u16], w: usize) -> Plan
     requires { ⌜ (0 < w) × (w ≤ 64) × (w ≤ length (now words)) × Injective w (λ k. getD (now words) k 0 % w) ⌝ }
@@ -88,8 +75,8 @@ pub fn plan_of(images: &[u16], words: &[u16], w: usize) -> Plan
     ensures { λ r. ⌜ Planned w (λ i. getD (now (images .entry)) i 0) (now (words .entry)) w (r .reads) (r .forward) (r .back) (r .writes) ⌝ }
 {
     let mut reads = [0u16; 64];
-    let mut forward = straight();
-    let mut back = straight();
+    let mut forward = tables::numbered();
+    let mut back = tables::numbered();
     let mut writes = [0u16; 64];
     let mut k = 0;
     while k < w {

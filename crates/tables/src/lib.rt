@@ -8,6 +8,7 @@ pub use gathering::gather;
 pub use gathering::read;
 pub use lines::any_from;
 pub use lines::line_at;
+pub use lines::numbered;
 pub use lines::spare_used;
 pub use opening::file_length;
 pub use opening::open;

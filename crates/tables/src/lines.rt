@@ -55,8 +55,8 @@ fn sources(file: &[u8], at: usize, lines: usize, count: usize) -> [u8; 64]
     standing
 }
 
-// Each of 64 lines with its own number.
-fn numbered() -> [u8; 64]
+// Each of 64 lines with its own number. Only our own crates need it.
+pub fn numbered() -> [u8; 64]
     ensures { λ r. ⌜ (length r ≡ 64) × ((x : ℕ) → x < 64 → getD r x 0 ≡ x) ⌝ }
 {
     let mut standing = [0u8; 64];

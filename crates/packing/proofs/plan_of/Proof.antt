@@ -16,14 +16,14 @@ Inv-loop images words w reads₀ forward₀ back₀ writes₀ k₀ reads forward
 abbrev μ-loop : tie.MeasureT-loop
 μ-loop images words w reads₀ forward₀ back₀ writes₀ k₀ reads forward back writes k = w - k
 
-straight-requires : tie.Need-straight-requires Inv-loop μ-loop
-straight-requires c κs = search needs
+numbered-requires : tie.Need-numbered-requires Inv-loop μ-loop
+numbered-requires c κs = search needs
 
-straight-requires-2 : tie.Need-straight-requires-2 Inv-loop μ-loop
-straight-requires-2 c κs = search needs
+numbered-requires-2 : tie.Need-numbered-requires-2 Inv-loop μ-loop
+numbered-requires-2 c κs = search needs
 
 loop-holds : tie.Need-loop-holds Inv-loop μ-loop
-loop-holds c = (omega arith, planned-none _ _ _ (c .before .straight .ensures) (c .straight2 .ensures))
+loop-holds c = (omega arith, planned-none _ _ _ (c .before .numbered .ensures) (c .numbered2 .ensures))
 
 mul-word : tie.Need-mul-word Inv-loop μ-loop
 mul-word c = search needs
@@ -107,8 +107,8 @@ plan-of-spec =
     (tie.spec
     Inv-loop
     μ-loop
-    straight-requires
-    straight-requires-2
+    numbered-requires
+    numbered-requires-2
     loop-holds
     mul-word
     shared-slice-read-word
