@@ -6,16 +6,17 @@ use native.Mathlib.Omega.{arith}
 use lib.ListN.{length, getD}
 use Rattle.laws.specs.Choice.{ifLt, ifEq}
 use Rattle.laws.specs.Permutation.{Permutes}
-use Rattle.laws.proofs.Choices.{ifLt-cases, ifEq-cases}
+use Rattle.laws.proofs.Choices.{ifLt-no, ifLt-cases, ifEq-yes, ifEq-cases}
 use Rattle.refusal.specs.declared.Refusal.{Refusal}
 use Rattle.images.specs.declared.Checked.{Checked}
 use Rattle.images.specs.declared.Checked.the-variants.{Permutation, Refused}
 use Rattle.images.specs.Images.{checkOf}
-use Rattle.images.proofs.Exact.{not-refused, check-permutes}
+use Rattle.images.proofs.Exact.{not-refused, check-permutes, permutes-check}
 use Rattle.tables.specs.Terms.{Dims, fileLength}
 use Rattle.generator.specs.Generating.{scratchNeed, checksOf, outcome, Filled, Generates}
 use Rattle.generator.specs.declared.Generation.the-variants.{Written, Refused as Unmade}
 
+-- n and w keep their limits, enough memory is lent, and the images are a permutation
 pub record Passed (n w : ℕ) (images : List ℕ) (room scratch : ℕ) : Type 0 where
   pub dims : Dims n w
   pub listed : n ≤ length images
@@ -51,6 +52,16 @@ module _ (n w : ℕ) (images : List ℕ) (room scratch : ℕ) where
         permutes = check-permutes images n e;
       })
       (λ _. turned _)
+
+-- and nothing else is turned down
+pub passed-checks : {n w : ℕ} {images : List ℕ} {room scratch : ℕ} → Passed n w images room scratch
+    → checksOf n w images room scratch ≡ Permutation
+unfolding checksOf
+passed-checks {n} {w} {images} K =
+    let d = K .dims in
+    sym (ifLt-no _ _ _ _ _ (d .some) (ifLt-no _ _ _ _ _ (d .few) (ifLt-no _ _ _ _ _ (d .wide) (ifLt-no _ _ _ _ _ (d .narrow)
+    (ifEq-yes _ _ _ _ _ (d .even) (ifLt-no _ _ _ _ _ (K .listed) (ifLt-no _ _ _ _ _ (K .roomy) (ifLt-no _ _ _ _ _ (K .spacious)
+    (sym (permutes-check images n (K .permutes)))))))))))
 
 pub scratch-enough : {n w : ℕ} {images : List ℕ} {room scratch : ℕ} → Passed n w images room scratch → n ≤ scratch
 unfolding scratchNeed

@@ -1,4 +1,5 @@
-// The read lines of a set: line by line a perfect matching of what is left.
+// The read lines of a set: line by line a perfect matching of what is left. This module is private to the crate, so its functions may have a
+// `requires`.
 ghost use mathlib.Core.Path.{_≡_};
 ghost use Prim.Native.Nat.{ℕ, _+_, _*_, _%_, _<_, _≤_};
 ghost use lib.ListN.{length, getD};

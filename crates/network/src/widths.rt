@@ -48,7 +48,7 @@ pub fn value_at(values: &[u8], i: usize) -> usize
     }
 }
 
-// The other line of the same switch.
+// The other line of the same switch. Only this crate calls it.
 pub fn partner_of(line: usize) -> usize
     requires { ⌜ line < 256 ⌝ }
     ensures { λ r. ⌜ r ≡ partner line ⌝ }

@@ -1,16 +1,12 @@
 -- Demand 3, the machine: for every permutation of n words and every width that divides n a set is generated, and over any list of steps on
 -- it, refused ones included, the cycle machine and the plain rule show the same. All over `Generates`, which the contract of
 -- `generator::generate` cites, and `machine`, which is made of `stepOf`, which the contract of `machine::step` cites.
-use Prim.Native.Nat.{ℕ, suc, _+_, _*_, _≤_}
+use Prim.Native.Nat.{ℕ, _*_, _≤_}
 use mathlib.Core.Path.{_≡_, refl, sym, ap, subst, _∙_}
 use mathlib.Core.List.{List, [], _∷_, _++_}
 use lib.ListN.{length, getD, take, drop}
 use Rattle.laws.specs.Tabulate.{overwrite}
-use Rattle.laws.specs.Permutation.{Permutes}
-use Rattle.laws.proofs.Choices.{ifLt-no, ifEq-yes}
-use Rattle.images.specs.declared.Checked.the-variants.{Permutation}
-use Rattle.images.proofs.Exact.{permutes-check}
-use Rattle.tables.specs.Terms.{Dims, fileLength}
+use Rattle.tables.specs.Terms.{fileLength}
 use Rattle.tables.specs.Generated.{setOf}
 use Rattle.tables.specs.Reading.{outcome, readOf}
 use Rattle.tables.specs.declared.Reading.the-variants.{Read}
@@ -18,10 +14,11 @@ use Rattle.tables.proofs.SetBits.{length-setOf}
 use Rattle.tables.proofs.Exact.{read-performs, generated-reads}
 use Rattle.machine.specs.Devices.{Feed, run}
 use Rattle.machine.specs.Step.{fresh}
-use Rattle.machine.specs.Machine.{Card, machine}
+use Rattle.machine.specs.Machine.{machine}
 use Rattle.machine.specs.Plain.{plain, empty}
 use Rattle.machine.proofs.Theorem.{machine-is-plain, generated-is-plain}
-use Rattle.generator.specs.Generating.{scratchNeed, checksOf, Filled, Generates}
+use Rattle.generator.specs.Generating.{Generates}
+use Rattle.generator.proofs.Checking.{Passed, passed-checks}
 use Rattle.generator.specs.declared.Generation.{Generation}
 use Rattle.generator.specs.declared.Generation.the-variants.{Written}
 
@@ -33,14 +30,6 @@ pub sets-stream : (file images scratch images′ : List ℕ) {n w : ℕ} → rea
 sets-stream file images scratch images′ h =
     let known = read-performs file images scratch h in
     machine-is-plain file (λ i. getD images′ i 0) (known .opened) (known .performs)
-
--- the images are a permutation for n and w within their limits, and enough memory is lent
-pub record Ordered (n w : ℕ) (images : List ℕ) (room scratch : ℕ) : Type 0 where
-  pub dims : Dims n w
-  pub permutes : Permutes n (λ i. getD images i 0)
-  pub listed : n ≤ length images
-  pub roomy : fileLength n w ≤ room
-  pub spacious : scratchNeed n ≤ scratch
 
 -- what the answer of generating and the lent file afterwards are good for
 pub record Good (n w : ℕ) (images : List ℕ) (answer : Generation) (made : List ℕ) : Type 0 where
@@ -54,20 +43,11 @@ pub record Good (n w : ℕ) (images : List ℕ) (answer : Generation) (made : Li
   pub streams : (first second : List ℕ) → 2 * n ≤ length first → 2 * n ≤ length second → (steps : List Feed)
       → run (machine made) (record { clock = fresh; first = first; second = second }) steps ≡ run (plain n w (λ i. getD images i 0)) empty steps
 
+-- `Passed` says that n and w keep their limits, the images are a permutation, and the memory that generating needs is lent
 abbrev pub Streaming : Type 0
 Streaming = (n w : ℕ) (images file scratch : List ℕ) (answer : Generation) (file′ scratch′ : List ℕ)
-    → Ordered n w images (length file) (length scratch) → Generates n w images file scratch answer file′ scratch′
+    → Passed n w images (length file) (length scratch) → Generates n w images file scratch answer file′ scratch′
     → Good n w images answer (take (fileLength n w) file′)
-
--- no such call is refused
-ordered-checks : {n w : ℕ} {images : List ℕ} {room scratch : ℕ} → Ordered n w images room scratch
-    → checksOf n w images room scratch ≡ Permutation
-unfolding checksOf
-ordered-checks {n} {w} {images} R =
-    let d = R .dims in
-    sym (ifLt-no _ _ _ _ _ (d .some) (ifLt-no _ _ _ _ _ (d .few) (ifLt-no _ _ _ _ _ (d .wide) (ifLt-no _ _ _ _ _ (d .narrow)
-    (ifEq-yes _ _ _ _ _ (d .even) (ifLt-no _ _ _ _ _ (R .listed) (ifLt-no _ _ _ _ _ (R .roomy) (ifLt-no _ _ _ _ _ (R .spacious)
-    (sym (permutes-check images n (R .permutes)))))))))))
 
 -- the front of two lists
 take-front : (xs ys : List ℕ) → take (length xs) (xs ++ ys) ≡ xs
@@ -76,7 +56,7 @@ take-front (x ∷ xs) ys = ap (λ (r : List ℕ). x ∷ r) (take-front xs ys)
 
 pub demand-3 : Streaming
 demand-3 n w images file scratch answer file′ scratch′ R G =
-    let A = G .generated (ordered-checks R) in
+    let A = G .generated (passed-checks R) in
     let F = A .1 in
     let p : ℕ → ℕ = λ i. getD images i 0 in
     let long : length (setOf n w p (F .reads)) ≡ fileLength n w = length-setOf n w p (F .reads) in
