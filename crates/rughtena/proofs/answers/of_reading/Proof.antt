@@ -1,0 +1,31 @@
+-- `answers::of_reading` meets its contract: each case of the answer by itself.
+use mathlib.Core.Path.{_≡_, refl, sym, ap, _∙_}
+use borrow.Author.Needs.{needs}
+use Rattle.rughtena.specs.Answers.{readingAnswer}
+use Rattle.rughtena.proofs.answers.of_reading.Statement.{statement}
+use Rattle.rughtena.proofs.answers.of_reading.Tie as tie
+
+enum-known-core : tie.Need-enum-known-core
+enum-known-core c = search needs
+
+enum-known-core-2 : tie.Need-enum-known-core-2
+enum-known-core-2 c = search needs
+
+number-requires : tie.Need-number-requires
+number-requires c κs = search needs
+
+place-requires : tie.Need-place-requires
+place-requires c κs = search needs
+
+returns : tie.Need-returns
+unfolding readingAnswer
+returns c = rw (c .before .core .given .1) refl
+
+returns-2 : tie.Need-returns-2
+unfolding readingAnswer
+returns-2 c = rw (c .before .number .ensures) (rw (c .place .ensures) (rw (c .before .before .before .core2 .given .1) refl))
+
+pub of-reading-spec : {M : Type 1} → statement M
+of-reading-spec =
+    tie.close
+    (tie.spec enum-known-core enum-known-core-2 number-requires place-requires returns returns-2)

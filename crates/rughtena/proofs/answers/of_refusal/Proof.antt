@@ -1,0 +1,19 @@
+-- `answers::of_refusal` meets its contract.
+use mathlib.Core.Path.{_≡_, refl, sym, ap, _∙_}
+use borrow.Author.Needs.{needs}
+use Rattle.rughtena.specs.Answers.{refusalAnswer}
+use Rattle.rughtena.proofs.answers.of_refusal.Statement.{statement}
+use Rattle.rughtena.proofs.answers.of_refusal.Tie as tie
+
+number-requires : tie.Need-number-requires
+number-requires c κs = search needs
+
+place-requires : tie.Need-place-requires
+place-requires c κs = search needs
+
+returns : tie.Need-returns
+unfolding refusalAnswer
+returns c = rw (c .before .number .ensures) (rw (c .place .ensures) refl)
+
+pub of-refusal-spec : {M : Type 1} → statement M
+of-refusal-spec = tie.close (tie.spec number-requires place-requires returns)

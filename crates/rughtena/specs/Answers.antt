@@ -1,0 +1,56 @@
+-- The answers of the calls as integers: number 0 and the values of document 01, or a refusal's number and place.
+use Prim.Native.Nat.{ℕ}
+use Rattle.refusal.specs.Refusals.{numberOf, placeOf}
+use Rattle.refusal.specs.declared.Refusal.{Refusal}
+use Rattle.generator.specs.declared.Generation.{Generation}
+use Rattle.generator.specs.declared.Generation.the-variants.{Written, Refused as Unmade}
+use Rattle.network.specs.declared.following.Followed.{Followed}
+use Rattle.network.specs.declared.following.Followed.the-variants.{Line, Refused as Unfollowed}
+use Rattle.network.specs.declared.setting.Setting.{Setting}
+use Rattle.network.specs.declared.setting.Setting.the-variants.{Written as Set, Refused as Unset}
+use Rattle.tables.specs.declared.Reading.{Reading}
+use Rattle.tables.specs.declared.Reading.the-variants.{Read, Refused as Unread}
+use Rattle.machine.specs.declared.Clock.{Clock}
+use Rattle.machine.specs.declared.Stepped.{Stepped}
+use Rattle.machine.specs.declared.Stepped.the-variants.{Filling, Wrote, Refused as Unstepped}
+use Rattle.rughtena.specs.declared.Answer.{Answer}
+use Rattle.rughtena.specs.declared.CardClock.{CardClock}
+use Rattle.rughtena.specs.declared.ReadAnswer.{ReadAnswer}
+use Rattle.rughtena.specs.declared.StepAnswer.{StepAnswer}
+
+-- a refusal's number and place
+unfoldable pub refusalAnswer : Refusal → Answer
+refusalAnswer r = record { number = numberOf r; value = placeOf r }
+
+-- generating: the file's length
+unfoldable pub generationAnswer : Generation → Answer
+generationAnswer (Written length) = record { number = 0; value = length }
+generationAnswer (Unmade r) = refusalAnswer r
+
+-- setting a network: B
+unfoldable pub settingAnswer : Setting → Answer
+settingAnswer (Set count) = record { number = 0; value = count }
+settingAnswer (Unset r) = refusalAnswer r
+
+-- following a line: the line on which it leaves
+unfoldable pub lineAnswer : Followed → Answer
+lineAnswer (Line line) = record { number = 0; value = line }
+lineAnswer (Unfollowed r) = refusalAnswer r
+
+-- reading: n and w
+unfoldable pub readingAnswer : Reading → ReadAnswer
+readingAnswer (Read n w) = record { number = 0; place = 0; words = n; width = w }
+readingAnswer (Unread r) = record { number = numberOf r; place = placeOf r; words = 0; width = 0 }
+
+-- a clock, from C and to C
+unfoldable pub clockOf : CardClock → Clock
+clockOf clock = record { cycle = clock .cycle; half = clock .half; fill = clock .fill }
+
+unfoldable pub cardClockOf : Clock → CardClock
+cardClockOf clock = record { cycle = clock .cycle; half = clock .half; fill = clock .fill }
+
+-- a step: `filling` is 0, that w words were written is 1; a refused step gives back the clock that it was given
+unfoldable pub steppedAnswer : CardClock → Stepped → StepAnswer
+steppedAnswer clock (Filling next) = record { number = 0; place = 0; wrote = 0; clock = cardClockOf next }
+steppedAnswer clock (Wrote next) = record { number = 0; place = 0; wrote = 1; clock = cardClockOf next }
+steppedAnswer clock (Unstepped r) = record { number = numberOf r; place = placeOf r; wrote = 0; clock = clock }

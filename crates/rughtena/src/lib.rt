@@ -1,0 +1,113 @@
+// The calls for C and Rust. Each takes a slice as a pointer and a length, calls the crate that does the work and gives its answer
+// as integers. A contract says that the core's contract holds of some answer, and that this answer is the one given.
+ghost use mathlib.Core.Path.{_≡_};
+ghost use Rattle.network.specs.Calls.{followOf, setOf, outcome as settingOutcome};
+ghost use Rattle.network.specs.declared.setting.Setting.{Setting};
+ghost use Rattle.tables.specs.Reading.{readOf, outcome as readingOutcome};
+ghost use Rattle.tables.specs.declared.Reading.{Reading};
+ghost use Rattle.generator.specs.Generating.{Generates};
+ghost use Rattle.generator.specs.declared.Generation.{Generation};
+ghost use Rattle.machine.specs.Step.{stepOf, outcome as stepOutcome};
+ghost use Rattle.machine.specs.declared.Stepped.{Stepped};
+ghost use Rattle.rughtena.specs.Answers.{refusalAnswer, lineAnswer, settingAnswer, readingAnswer, generationAnswer, clockOf, cardClockOf, steppedAnswer};
+
+mod answers;
+
+use generator::generate;
+use machine::Clock;
+use machine::step;
+use network::follow;
+use network::set;
+use tables::read;
+
+// An accepted call has number 0 and its value, a refused one the refusal's number and place.
+#[repr(C)]
+pub struct Answer {
+    pub number: usize,
+    pub value: usize,
+}
+
+// An accepted reading has number and place 0, n and w. A refused one has n and w 0.
+#[repr(C)]
+pub struct ReadAnswer {
+    pub number: usize,
+    pub place: usize,
+    pub words: usize,
+    pub width: usize,
+}
+
+// A clock; a fresh one is all zero.
+#[repr(C)]
+pub struct CardClock {
+    pub cycle: usize,
+    pub half: usize,
+    pub fill: usize,
+}
+
+// An accepted step has number and place 0, 1 if words were written and else 0 (`filling`), and the next clock. A refused one has the
+// clock that it was given.
+#[repr(C)]
+pub struct StepAnswer {
+    pub number: usize,
+    pub place: usize,
+    pub wrote: usize,
+    pub clock: CardClock,
+}
+
+// Generating a table set; the value is the file's length in bytes.
+#[no_mangle]
+pub extern "C" fn rughtena_generate(
+    n: usize,
+    w: usize,
+    images: &[u16],
+    file: &mut [u8],
+    scratch: &mut [u16],
+) -> Answer
+    ensures { λ r. ⌜ ((core : Generation) × (r ≡ generationAnswer core) × (Generates n w (now (images .entry)) (now (file .entry)) (now (scratch .entry)) core (now (file .exit)) (now (scratch .exit)))) ⌝ }
+{
+    answers::of_generation(generate(n, w, images, file, scratch))
+}
+
+// Reading a table set.
+#[no_mangle]
+pub extern "C" fn rughtena_read(file: &[u8], images: &mut [u16], scratch: &[u16]) -> ReadAnswer
+    ensures { λ r. ⌜ ((core : Reading) × (r ≡ readingAnswer core) × (readingOutcome core (now (images .exit)) ≡ readOf (now (file .entry)) (now (images .entry)) (now (scratch .entry)))) ⌝ }
+{
+    answers::of_reading(read(file, images, scratch))
+}
+
+// Setting a network; the value is B.
+#[no_mangle]
+pub extern "C" fn rughtena_set(width: usize, images: &[u16], values: &mut [u8]) -> Answer
+    ensures { λ r. ⌜ ((core : Setting) × (r ≡ settingAnswer core) × (settingOutcome core (now (values .exit)) ≡ setOf width (now (images .entry)) (now (values .entry)))) ⌝ }
+{
+    answers::of_setting(set(width, images, values))
+}
+
+// Following a line through a network; the value is the line on which it leaves.
+#[no_mangle]
+pub extern "C" fn rughtena_follow(width: usize, values: &[u8], line: usize) -> Answer
+    ensures { λ r. ⌜ r ≡ lineAnswer (followOf width (now (values .entry)) line) ⌝ }
+{
+    answers::of_line(follow(width, values, line))
+}
+
+// One step of the cycle machine.
+#[no_mangle]
+pub extern "C" fn rughtena_step(
+    file: &[u8],
+    clock: CardClock,
+    first: &mut [u16],
+    second: &mut [u16],
+    words: &[u16],
+    out: &mut [u16],
+) -> StepAnswer
+    ensures { λ r. ⌜ ((core : Stepped) × (r ≡ steppedAnswer clock core) × (stepOutcome core (now (first .exit)) (now (second .exit)) (now (out .exit)) ≡ stepOf (now (file .entry)) (clockOf clock) (now (first .entry)) (now (second .entry)) (now (words .entry)) (now (out .entry)))) ⌝ }
+{
+    let given = Clock {
+        cycle: clock.cycle,
+        half: clock.half,
+        fill: clock.fill,
+    };
+    answers::of_step(clock, step(file, given, first, second, words, out))
+}

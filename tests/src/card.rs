@@ -1,0 +1,185 @@
+//! The proved library, called as include/rughtena.h declares it. No call has a condition on its arguments, so the wrappers test
+//! nothing.
+use crate::{Clock, Refusal, Said};
+
+#[repr(C)]
+struct Answer {
+    number: usize,
+    value: usize,
+}
+
+#[repr(C)]
+struct ReadAnswer {
+    number: usize,
+    place: usize,
+    words: usize,
+    width: usize,
+}
+
+#[repr(C)]
+struct StepAnswer {
+    number: usize,
+    place: usize,
+    wrote: usize,
+    clock: Clock,
+}
+
+extern "C" {
+    fn rughtena_generate(
+        n: usize,
+        w: usize,
+        images: *const u16,
+        images_len: usize,
+        file: *mut u8,
+        file_len: usize,
+        scratch: *mut u16,
+        scratch_len: usize,
+    ) -> Answer;
+    fn rughtena_read(
+        file: *const u8,
+        file_len: usize,
+        images: *mut u16,
+        images_len: usize,
+        scratch: *const u16,
+        scratch_len: usize,
+    ) -> ReadAnswer;
+    fn rughtena_set(
+        width: usize,
+        images: *const u16,
+        images_len: usize,
+        values: *mut u8,
+        values_len: usize,
+    ) -> Answer;
+    fn rughtena_follow(width: usize, values: *const u8, values_len: usize, line: usize) -> Answer;
+    fn rughtena_step(
+        file: *const u8,
+        file_len: usize,
+        clock: Clock,
+        first: *mut u16,
+        first_len: usize,
+        second: *mut u16,
+        second_len: usize,
+        words: *const u16,
+        words_len: usize,
+        out: *mut u16,
+        out_len: usize,
+    ) -> StepAnswer;
+}
+
+fn value(answer: Answer) -> Result<usize, Refusal> {
+    match answer.number {
+        0 => Ok(answer.value),
+        number => Err(Refusal {
+            number,
+            place: answer.value,
+        }),
+    }
+}
+
+pub fn generate(
+    n: usize,
+    w: usize,
+    images: &[u16],
+    file: &mut [u8],
+    scratch: &mut [u16],
+) -> Result<usize, Refusal> {
+    // SAFETY: each pointer comes from a slice of the length beside it.
+    value(unsafe {
+        rughtena_generate(
+            n,
+            w,
+            images.as_ptr(),
+            images.len(),
+            file.as_mut_ptr(),
+            file.len(),
+            scratch.as_mut_ptr(),
+            scratch.len(),
+        )
+    })
+}
+
+/// The words and the width of an accepted set.
+pub fn read(file: &[u8], images: &mut [u16], scratch: &[u16]) -> Result<(usize, usize), Refusal> {
+    // SAFETY: each pointer comes from a slice of the length beside it.
+    let answer = unsafe {
+        rughtena_read(
+            file.as_ptr(),
+            file.len(),
+            images.as_mut_ptr(),
+            images.len(),
+            scratch.as_ptr(),
+            scratch.len(),
+        )
+    };
+    if answer.number == 0 {
+        assert_eq!(answer.place, 0);
+        Ok((answer.words, answer.width))
+    } else {
+        assert_eq!((answer.words, answer.width), (0, 0));
+        Err(Refusal {
+            number: answer.number,
+            place: answer.place,
+        })
+    }
+}
+
+pub fn set(width: usize, images: &[u16], values: &mut [u8]) -> Result<usize, Refusal> {
+    // SAFETY: each pointer comes from a slice of the length beside it.
+    value(unsafe {
+        rughtena_set(
+            width,
+            images.as_ptr(),
+            images.len(),
+            values.as_mut_ptr(),
+            values.len(),
+        )
+    })
+}
+
+pub fn follow(width: usize, values: &[u8], line: usize) -> Result<usize, Refusal> {
+    // SAFETY: the pointer comes from a slice of the length beside it.
+    value(unsafe { rughtena_follow(width, values.as_ptr(), values.len(), line) })
+}
+
+/// One step; an accepted one moves the clock on.
+pub fn step(
+    file: &[u8],
+    clock: &mut Clock,
+    first: &mut [u16],
+    second: &mut [u16],
+    words: &[u16],
+    out: &mut [u16],
+) -> Result<Said, Refusal> {
+    // SAFETY: each pointer comes from a slice of the length beside it.
+    let answer = unsafe {
+        rughtena_step(
+            file.as_ptr(),
+            file.len(),
+            *clock,
+            first.as_mut_ptr(),
+            first.len(),
+            second.as_mut_ptr(),
+            second.len(),
+            words.as_ptr(),
+            words.len(),
+            out.as_mut_ptr(),
+            out.len(),
+        )
+    };
+    if answer.number != 0 {
+        assert_eq!(answer.clock, *clock);
+        assert_eq!(answer.wrote, 0);
+        return Err(Refusal {
+            number: answer.number,
+            place: answer.place,
+        });
+    }
+    assert_eq!(answer.place, 0);
+    *clock = answer.clock;
+    Ok(if answer.wrote == 1 {
+        Said::Wrote
+    } else {
+        assert_eq!(answer.wrote, 0);
+        Said::Filling
+    })
+}

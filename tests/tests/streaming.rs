@@ -1,0 +1,98 @@
+//! Generated sets, read back and stepped: every order of up to 6 words at every width, and random orders of every n up to 130 at
+//! every width. What the machine shows is compared with the plain rule, refused steps included.
+use rughtena_tests::orders::{all, widths, Random};
+use rughtena_tests::plain::Plain;
+use rughtena_tests::second::Dims;
+use rughtena_tests::{card, Clock};
+
+/// Frames that are fed; all but the last two leave.
+const FRAMES: usize = 6;
+
+fn generated(w: usize, order: &[u16]) -> Vec<u8> {
+    let n = order.len();
+    let mut file = vec![0xa5; Dims::new(n, w).length];
+    let mut scratch = vec![0x5a5a; 4 * n + 1024];
+    let length =
+        card::generate(n, w, order, &mut file, &mut scratch).expect("a permutation is generated");
+    assert_eq!(length, file.len());
+    file
+}
+
+fn reads_as(w: usize, order: &[u16], file: &[u8]) {
+    let n = order.len();
+    let mut images = vec![0xffff; n];
+    assert_eq!(card::read(file, &mut images, &vec![0; 2 * n]), Ok((n, w)));
+    assert_eq!(images, order);
+}
+
+/// Both devices are fed the same steps; every seventh step or so is one that is refused.
+fn streams(w: usize, order: &[u16], file: &[u8], random: &mut Random) {
+    let n = order.len();
+    let mut clock = Clock::default();
+    let surplus = random.below(3);
+    let mut first = random.words(2 * n + surplus);
+    let mut second = random.words(2 * n + 2 - surplus);
+    let mut plain = Plain::new(w, order);
+    let mut accepted = 0;
+    while accepted < FRAMES * (n / w) {
+        let out_len = if random.below(14) == 0 {
+            random.below(w)
+        } else {
+            w + random.below(3)
+        };
+        let count = if random.below(14) == 0 {
+            random.below(2 * w + 2)
+        } else {
+            w
+        };
+        let words = random.words(count);
+        let mut out = random.words(out_len);
+        let mut plain_out = out.clone();
+        let shown = card::step(file, &mut clock, &mut first, &mut second, &words, &mut out);
+        assert_eq!(shown, plain.step(&words, &mut plain_out));
+        assert_eq!(out, plain_out);
+        accepted += shown.is_ok() as usize;
+    }
+}
+
+fn whole(w: usize, order: &[u16], random: &mut Random) {
+    let file = generated(w, order);
+    reads_as(w, order, &file);
+    streams(w, order, &file, random);
+}
+
+#[test]
+fn every_order_of_up_to_six_words() {
+    let mut random = Random(1);
+    for n in 1..=6 {
+        for order in all(n) {
+            for w in widths(n) {
+                whole(w, &order, &mut random);
+            }
+        }
+    }
+}
+
+#[test]
+fn random_orders_of_up_to_130_words() {
+    let mut random = Random(2);
+    for n in 1..=130 {
+        for w in widths(n) {
+            for _ in 0..20 {
+                let order = random.order(n);
+                whole(w, &order, &mut random);
+            }
+        }
+    }
+}
+
+#[test]
+fn longest_frames_at_every_width() {
+    let mut random = Random(3);
+    for n in [4096, 4095, 4032, 3600] {
+        for w in widths(n) {
+            let order = random.order(n);
+            whole(w, &order, &mut random);
+        }
+    }
+}
