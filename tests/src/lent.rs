@@ -4,6 +4,7 @@ use crate::orders::Random;
 /// How many guard elements stand before and behind.
 const GUARD: usize = 8;
 
+#[derive(Clone, Debug, PartialEq)]
 pub struct Lent<T> {
     all: Vec<T>,
     before: Vec<T>,

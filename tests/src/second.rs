@@ -601,3 +601,29 @@ pub fn step(
     };
     Ok(said)
 }
+
+/// One line of a set as it stands in the file.
+pub struct Inspected {
+    pub reads: Vec<usize>,
+    pub bits: Vec<u8>,
+    pub writes: Vec<usize>,
+}
+
+/// The lines of a set of the right form, bit by bit.
+pub fn inspect(file: &[u8]) -> Vec<Inspected> {
+    let dims = open(file).expect("a set of the right form");
+    let bit = |at: usize| file[at / 8] >> (7 - at % 8) & 1;
+    let number = |at: usize| (0..dims.a).fold(0, |value, j| 2 * value + bit(at + j) as usize);
+    (0..dims.c)
+        .map(|t| {
+            let start = 24 + t * dims.line;
+            let switches = start + dims.w * dims.a;
+            let writes = switches + dims.switches;
+            Inspected {
+                reads: (0..dims.w).map(|b| number(start + b * dims.a)).collect(),
+                bits: (0..dims.switches).map(|j| bit(switches + j)).collect(),
+                writes: (0..dims.w).map(|k| number(writes + k * dims.a)).collect(),
+            }
+        })
+        .collect()
+}

@@ -1,9 +1,10 @@
 //! Generated sets, read back and stepped: every order of up to 6 words at every width, and random orders of every n up to 130 at
 //! every width. What the machine shows is compared with the plain rule, refused steps included.
+use rughtena as card;
+use rughtena::Clock;
 use rughtena_tests::orders::{all, widths, Random};
 use rughtena_tests::plain::Plain;
 use rughtena_tests::second::Dims;
-use rughtena_tests::{card, Clock};
 
 /// Frames that are fed; all but the last two leave.
 const FRAMES: usize = 6;

@@ -1,5 +1,7 @@
 -- The laws, each over what the one before it shows: digits of a number, bits and fields of a list of bytes, fields by whole bytes.
+-- `Walking` stands apart: it has what the walks over a reader share.
 pub mod Digits
 pub mod Fields
 pub mod Window
 pub mod Weights
+pub mod Walking

@@ -1,3 +1,4 @@
--- `Bits` has what the public functions read and put, `Window` what the private ones work on.
+-- `Bits` has what the public functions read and put, `Reading` what a reader gives, `Window` what the private ones work on.
 pub mod Bits
+pub mod Reading
 pub mod Window

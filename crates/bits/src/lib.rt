@@ -7,6 +7,15 @@ ghost use lib.ListN.{length, getD, set};
 ghost use Rattle.bits.specs.Bits.{withDigits, field, putField};
 ghost use Rattle.bits.specs.Window.{windowOf, putWindow};
 
+mod reader;
+
+pub use reader::Reader;
+pub use reader::Taken;
+pub use reader::field_at;
+pub use reader::position;
+pub use reader::reader_at;
+pub use reader::take;
+
 // Byte `index`; 0 past the end.
 fn byte_at(bytes: &[u8], index: usize) -> u32
     ensures { λ r. ⌜ (r ≡ getD (now (bytes .entry)) index 0) × (r < 256) ⌝ }
@@ -26,9 +35,9 @@ fn window_at(bytes: &[u8], first: usize) -> u32
     (byte_at(bytes, first) * 256 + byte_at(bytes, first + 1)) * 256 + byte_at(bytes, first + 2)
 }
 
-// The number in the `width` bits from bit `at`; a bit past the end is 0.
-// Only our own crates call it, so it may require a width that fits the result.
-pub fn field_at(bytes: &[u8], at: usize, width: usize) -> u16
+// The number in the `width` bits from bit `at`; a bit past the end is 0. The reader takes its fields by it.
+// It is private, so it may require a width that fits the result.
+fn digits_at(bytes: &[u8], at: usize, width: usize) -> u16
     requires { ⌜ width ≤ 16 ⌝ }
     ensures { λ r. ⌜ r ≡ field (now (bytes .entry)) at width ⌝ }
 {

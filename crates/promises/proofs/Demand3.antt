@@ -17,7 +17,7 @@ use Rattle.machine.specs.Step.{fresh}
 use Rattle.machine.specs.Machine.{machine}
 use Rattle.machine.specs.Plain.{plain, empty}
 use Rattle.machine.proofs.Theorem.{machine-is-plain, generated-is-plain}
-use Rattle.generator.specs.Generating.{Generates}
+use Rattle.generator.specs.Generating.{Filled, Generates}
 use Rattle.generator.proofs.Checking.{Passed, passed-checks}
 use Rattle.generator.specs.declared.Generation.{Generation}
 use Rattle.generator.specs.declared.Generation.the-variants.{Written}
@@ -54,17 +54,21 @@ take-front : (xs ys : List ℕ) → take (length xs) (xs ++ ys) ≡ xs
 take-front [] ys = refl
 take-front (x ∷ xs) ys = ap (λ (r : List ℕ). x ∷ r) (take-front xs ys)
 
+-- as many bytes of the lent file as the set has are the set
+pub front : {n w : ℕ} {images file scratch file′ scratch′ : List ℕ} (F : Filled n w images file scratch file′ scratch′)
+    → take (fileLength n w) file′ ≡ setOf n w (λ i. getD images i 0) (F .reads)
+front {n} {w} {images} {file} F =
+    let made : List ℕ = setOf n w (λ i. getD images i 0) (F .reads) in
+    let rest : List ℕ = drop (fileLength n w) file in
+    ap (take (fileLength n w)) (F .written)
+    ∙ subst (λ (z : ℕ). take z (made ++ rest) ≡ made) (length-setOf n w (λ i. getD images i 0) (F .reads)) (take-front made rest)
+
 pub demand-3 : Streaming
 demand-3 n w images file scratch answer file′ scratch′ R G =
     let A = G .generated (passed-checks R) in
     let F = A .1 in
-    let p : ℕ → ℕ = λ i. getD images i 0 in
-    let long : length (setOf n w p (F .reads)) ≡ fileLength n w = length-setOf n w p (F .reads) in
-    let rest : List ℕ = drop (fileLength n w) file in
-    let made : take (fileLength n w) file′ ≡ setOf n w p (F .reads) =
-    ap (take (fileLength n w)) (F .written)
-    ∙ subst (λ (z : ℕ). take z (setOf n w p (F .reads) ++ rest) ≡ setOf n w p (F .reads)) long (take-front (setOf n w p (F .reads)) rest) in
-    rw made (record {
+    let long : length (setOf n w (λ i. getD images i 0) (F .reads)) ≡ fileLength n w = length-setOf n w (λ i. getD images i 0) (F .reads) in
+    rw (front F) (record {
       accepted = A .0 ∙ ap Written (sym long);
       long = long;
       reads = λ out memory l m. generated-reads out memory (R .dims) (R .permutes) (F .schedule) l m;

@@ -1,4 +1,6 @@
 pub mod Demand1
 pub mod Demand2
 pub mod Demand3
+pub mod Idle
+pub mod OneCycle
 pub mod Examples

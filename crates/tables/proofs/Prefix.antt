@@ -14,7 +14,7 @@ use Rattle.network.specs.Setting.{setting}
 use Rattle.network.proofs.Carried.{carried-ext}
 use Rattle.tables.specs.Terms.{cycles, addressBits, depth, lineBits, headerBits}
 use Rattle.tables.specs.Format.{lineAt}
-use Rattle.tables.specs.Generated.{wordOf, portOf, writeOf, digits, joined, lineOf, setBits}
+use Rattle.tables.specs.Generated.{wordOf, portOf, writeOf, digits, joined, lineOf, setBits, packed, setOf}
 use Rattle.tables.proofs.SetBits.{switchesOf, setBits-words, setBits-width, setBits-zeros, setBits-line}
 
 joined-ext : (k : ℕ) (f g : ℕ → List ℕ) → ((i : ℕ) → i < k → f i ≡ g i) → joined k f ≡ joined k g
@@ -56,6 +56,11 @@ module _ {w : ℕ} (wide : 0 < w) (n : ℕ) (p : ℕ → ℕ) (f g : ℕ → ℕ
         let writes : joined w (λ k. digits a (writeOf w p f t k)) ≡ joined w (λ k. digits a (writeOf w p g t k)) =
         joined-ext w _ _ (λ k l. ap (digits a) (writeOf-ext k)) in
         cc (reads, switches-ext, writes)
+
+  -- read lines that agree
+  pub setOf-ext : ((t b : ℕ) → t < cycles n w → b < w → f t b ≡ g t b) → setOf n w p f ≡ setOf n w p g
+  unfolding setOf setBits
+  setOf-ext same = rw (joined-ext (cycles n w) (lineOf n w p f) (lineOf n w p g) (λ t l. lineOf-ext t (λ b. same t b l))) refl
 
   -- read lines that agree before line t
   pub setBits-prefix : (t : ℕ) → t ≤ cycles n w → ((s b : ℕ) → s < t → b < w → f s b ≡ g s b)

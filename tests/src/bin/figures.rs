@@ -1,8 +1,9 @@
 //! Times of the proved library beside the second implementation, in one run: generate, read and step. Each figure is the least of
 //! many runs, in nanoseconds for each word of the frame. Buffers are made once and not cleared between runs.
+use rughtena as card;
 use rughtena_tests::orders::{bit_reversal, identity, reversal, stride, Random};
 use rughtena_tests::second::Dims;
-use rughtena_tests::{card, second, Clock, Refusal, Said};
+use rughtena_tests::{second, Clock, Refusal, Said};
 use std::hint::black_box;
 use std::time::Instant;
 

@@ -1,4 +1,4 @@
--- `bits::field_at` meets its contract: the shift and the mask of the window are `field-window`. The mask `1 << width` loses nothing, as
+-- `bits::digits_at` meets its contract: the shift and the mask of the window are `field-window`. The mask `1 << width` loses nothing, as
 -- the width is at most 16, which also makes the result fit.
 -- Assumes nothing.
 use borrow.Author.Needs.{needs}
@@ -10,8 +10,8 @@ use native.Mathlib.Omega.{arith}
 use Rattle.bits.specs.Bits.{Bytes}
 use Rattle.bits.proofs.Digits.{one-shl}
 use Rattle.bits.proofs.Window.{field-window}
-use Rattle.bits.proofs.field_at.Statement.{statement}
-use Rattle.bits.proofs.field_at.Tie as tie
+use Rattle.bits.proofs.digits_at.Statement.{statement}
+use Rattle.bits.proofs.digits_at.Tie as tie
 
 sub-shift : tie.Need-sub-shift
 sub-shift c = search needs
@@ -48,8 +48,8 @@ returns c =
     let bytes : Bytes (now (a .bytes)) = record { byte = λ i. c .before .shared-slice-known .given i .fits } in
     rw (one-shl (a .width) (omega arith), c .window-at .ensures .0) (sym (field-window bytes (a .at) (a .width) (omega arith)))
 
-pub field-at-spec : {M : Type 1} → statement M
-field-at-spec =
+pub digits-at-spec : {M : Type 1} → statement M
+digits-at-spec =
     tie.close
     (tie.spec
     sub-shift

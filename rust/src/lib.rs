@@ -1,6 +1,31 @@
-//! The proved library, called as include/rughtena.h declares it. No call has a condition on its arguments, so the wrappers test
-//! nothing.
-use crate::{Clock, Refusal, Said};
+//! Safe calls of the proved library, laid out as include/rughtena.h declares them. No call has a condition on its arguments, so
+//! nothing is tested here. include/rughtena.h says what each call is lent, what it writes and what it refuses.
+
+/// A refusal: its number and its place.
+#[derive(Clone, Copy, Debug, PartialEq, Eq)]
+pub struct Refusal {
+    pub number: usize,
+    pub place: usize,
+}
+
+/// What an accepted step says.
+#[derive(Clone, Copy, Debug, PartialEq, Eq)]
+pub enum Said {
+    Filling,
+    Wrote,
+}
+
+/// The clock of the cycle machine; `Clock::default()` is a fresh one.
+#[repr(C)]
+#[derive(Clone, Copy, Debug, Default, PartialEq, Eq)]
+pub struct Clock {
+    pub cycle: usize,
+    pub half: usize,
+    pub fill: usize,
+}
+
+/// The longest table set, in bytes.
+pub const LONGEST_SET: usize = 12291;
 
 #[repr(C)]
 struct Answer {
@@ -76,6 +101,7 @@ fn value(answer: Answer) -> Result<usize, Refusal> {
     }
 }
 
+/// Generates a table set; gives its length in bytes.
 pub fn generate(
     n: usize,
     w: usize,
@@ -98,7 +124,7 @@ pub fn generate(
     })
 }
 
-/// The words and the width of an accepted set.
+/// Reads a table set; gives n and w, beside the written images.
 pub fn read(file: &[u8], images: &mut [u16], scratch: &[u16]) -> Result<(usize, usize), Refusal> {
     // SAFETY: each pointer comes from a slice of the length beside it.
     let answer = unsafe {
@@ -111,18 +137,16 @@ pub fn read(file: &[u8], images: &mut [u16], scratch: &[u16]) -> Result<(usize, 
             scratch.len(),
         )
     };
-    if answer.number == 0 {
-        assert_eq!(answer.place, 0);
-        Ok((answer.words, answer.width))
-    } else {
-        assert_eq!((answer.words, answer.width), (0, 0));
-        Err(Refusal {
-            number: answer.number,
+    match answer.number {
+        0 => Ok((answer.words, answer.width)),
+        number => Err(Refusal {
+            number,
             place: answer.place,
-        })
+        }),
     }
 }
 
+/// Sets a network; gives the number of values written.
 pub fn set(width: usize, images: &[u16], values: &mut [u8]) -> Result<usize, Refusal> {
     // SAFETY: each pointer comes from a slice of the length beside it.
     value(unsafe {
@@ -136,12 +160,13 @@ pub fn set(width: usize, images: &[u16], values: &mut [u8]) -> Result<usize, Ref
     })
 }
 
+/// Follows a line through a network; gives the line on which it leaves.
 pub fn follow(width: usize, values: &[u8], line: usize) -> Result<usize, Refusal> {
     // SAFETY: the pointer comes from a slice of the length beside it.
     value(unsafe { rughtena_follow(width, values.as_ptr(), values.len(), line) })
 }
 
-/// One step; an accepted one moves the clock on.
+/// One step of the cycle machine; an accepted one moves the clock on, a refused one leaves it.
 pub fn step(
     file: &[u8],
     clock: &mut Clock,
@@ -166,20 +191,13 @@ pub fn step(
             out.len(),
         )
     };
-    if answer.number != 0 {
-        assert_eq!(answer.clock, *clock);
-        assert_eq!(answer.wrote, 0);
-        return Err(Refusal {
-            number: answer.number,
-            place: answer.place,
-        });
-    }
-    assert_eq!(answer.place, 0);
     *clock = answer.clock;
-    Ok(if answer.wrote == 1 {
-        Said::Wrote
-    } else {
-        assert_eq!(answer.wrote, 0);
-        Said::Filling
-    })
+    match (answer.number, answer.wrote) {
+        (0, 0) => Ok(Said::Filling),
+        (0, _) => Ok(Said::Wrote),
+        (number, _) => Err(Refusal {
+            number,
+            place: answer.place,
+        }),
+    }
 }

@@ -1,0 +1,28 @@
+-- A frame of one cycle leaves generating no choice: every read address is 0, so the file is the set of these reads. With the computed
+-- examples this says which bytes generating gives in examples 1 to 3.
+use Prim.Native.Nat.{ℕ, _<_}
+use mathlib.Core.Path.{_≡_, _∙_}
+use mathlib.Core.List.{List}
+use native.Mathlib.Omega.{arith}
+use lib.ListN.{length, getD, take}
+use Rattle.tables.specs.Terms.{cycles, fileLength}
+use Rattle.tables.specs.Generated.{setOf}
+use Rattle.tables.proofs.Prefix.{setOf-ext}
+use Rattle.generator.specs.Generating.{Generates}
+use Rattle.generator.specs.declared.Generation.{Generation}
+use Rattle.generator.proofs.Checking.{Passed, passed-checks}
+use Rattle.promises.proofs.Demand3.{front}
+
+-- the read lines of a frame of one cycle
+unfoldable pub noReads : ℕ → ℕ → ℕ
+noReads t b = 0
+
+pub one-cycle : (n w : ℕ) (images file scratch : List ℕ) (answer : Generation) (file′ scratch′ : List ℕ) → cycles n w ≡ 1
+    → Passed n w images (length file) (length scratch) → Generates n w images file scratch answer file′ scratch′
+    → take (fileLength n w) file′ ≡ setOf n w (λ i. getD images i 0) noReads
+unfolding noReads
+one-cycle n w images file scratch answer file′ scratch′ single R G =
+    let F = G .generated (passed-checks R) .1 in
+    front F
+    ∙ setOf-ext (R .dims .wide) n (λ i. getD images i 0) (F .reads) noReads
+    (λ t b l m. omega (arith, F .schedule .below t b l m, single))

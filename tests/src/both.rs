@@ -1,0 +1,144 @@
+//! Each call made twice on the same lent memory, by the proved library and by the second implementation. The answers are compared, and
+//! every lent word afterwards, guards included. Memory that a call only reads is given as it is.
+use crate::lent::Lent;
+use crate::second;
+use crate::{Clock, Refusal, Said};
+
+/// Generating. Where a set is made its read lines are the generator's choice, so file and scratch are left to the caller; the call
+/// answers with the set.
+pub fn generate(
+    n: usize,
+    w: usize,
+    images: &[u16],
+    file: &Lent<u8>,
+    scratch: &Lent<u16>,
+) -> Result<Vec<u8>, Refusal> {
+    let (mut file, mut scratch) = (file.clone(), scratch.clone());
+    let (mut other_file, mut other_scratch) = (file.clone(), scratch.clone());
+    let answer = rughtena::generate(n, w, images, file.part(), scratch.part());
+    assert_eq!(
+        answer,
+        second::generate(n, w, images, other_file.part(), other_scratch.part())
+    );
+    match answer {
+        Err(refusal) => {
+            file.untouched();
+            scratch.untouched();
+            other_file.untouched();
+            other_scratch.untouched();
+            Err(refusal)
+        }
+        Ok(length) => {
+            file.kept_from(length);
+            scratch.kept_from(4 * n + 1024);
+            other_file.kept_from(length);
+            other_scratch.kept_from(4 * n + 1024);
+            Ok(file.now()[..length].to_vec())
+        }
+    }
+}
+
+/// Reading; answers with n, w and the images.
+pub fn read(
+    file: &[u8],
+    images: &Lent<u16>,
+    scratch: &Lent<u16>,
+) -> Result<(usize, usize, Vec<u16>), Refusal> {
+    let mut images = images.clone();
+    let mut other_images = images.clone();
+    let answer = rughtena::read(file, images.part(), scratch.now());
+    assert_eq!(
+        answer,
+        second::read(file, other_images.part(), scratch.now())
+    );
+    assert_eq!(images, other_images);
+    scratch.untouched();
+    match answer {
+        Err(refusal) => {
+            images.untouched();
+            Err(refusal)
+        }
+        Ok((n, w)) => {
+            images.kept_from(n);
+            Ok((n, w, images.now()[..n].to_vec()))
+        }
+    }
+}
+
+/// Setting a network; answers with the written values.
+pub fn set(width: usize, images: &[u16], values: &Lent<u8>) -> Result<Vec<u8>, Refusal> {
+    let mut values = values.clone();
+    let mut other_values = values.clone();
+    let answer = rughtena::set(width, images, values.part());
+    assert_eq!(answer, second::set(width, images, other_values.part()));
+    assert_eq!(values, other_values);
+    match answer {
+        Err(refusal) => {
+            values.untouched();
+            Err(refusal)
+        }
+        Ok(count) => {
+            values.kept_from(count);
+            Ok(values.now()[..count].to_vec())
+        }
+    }
+}
+
+pub fn follow(width: usize, values: &[u8], line: usize) -> Result<usize, Refusal> {
+    let answer = rughtena::follow(width, values, line);
+    assert_eq!(answer, second::follow(width, values, line));
+    answer
+}
+
+/// A step; the memories and the output stay as the step left them.
+pub fn step(
+    file: &[u8],
+    clock: &mut Clock,
+    first: &mut Lent<u16>,
+    second_memory: &mut Lent<u16>,
+    words: &[u16],
+    out: &mut Lent<u16>,
+) -> Result<Said, Refusal> {
+    let before = *clock;
+    let mut other_clock = *clock;
+    let mut other_first = first.clone();
+    let mut other_second = second_memory.clone();
+    let mut other_out = out.clone();
+    let untouched = (first.clone(), second_memory.clone(), out.clone());
+    let answer = rughtena::step(
+        file,
+        clock,
+        first.part(),
+        second_memory.part(),
+        words,
+        out.part(),
+    );
+    assert_eq!(
+        answer,
+        second::step(
+            file,
+            &mut other_clock,
+            other_first.part(),
+            other_second.part(),
+            words,
+            other_out.part()
+        )
+    );
+    assert_eq!(*clock, other_clock);
+    assert_eq!(
+        (&*first, &*second_memory, &*out),
+        (&other_first, &other_second, &other_out)
+    );
+    if answer.is_err() {
+        assert_eq!(*clock, before);
+        assert_eq!(
+            (first, second_memory, out),
+            (
+                &mut untouched.0.clone(),
+                &mut untouched.1.clone(),
+                &mut untouched.2.clone()
+            )
+        );
+    }
+    answer
+}
