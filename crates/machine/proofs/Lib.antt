@@ -12,4 +12,5 @@ pub mod Lines
 pub mod Frames
 pub mod Given
 pub mod Relation
+pub mod LentClock
 pub mod Theorem

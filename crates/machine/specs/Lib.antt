@@ -1,4 +1,5 @@
 pub mod Devices
 pub mod Step
 pub mod Machine
+pub mod LentClock
 pub mod Plain

@@ -3,8 +3,10 @@ ghost use mathlib.Core.Path.{_≡_};
 ghost use Prim.Native.Nat.{_^_, _<_, _≤_};
 ghost use Rattle.machine.specs.Step.{fresh, nextClock};
 
+mod lent;
 mod stepping;
 
+pub use lent::step_lent;
 use refusal::Refusal;
 pub use stepping::step;
 

@@ -35,10 +35,12 @@ use Rattle.generator.specs.Generating.{checksOf, Generates}
 use Rattle.generator.proofs.Checking.{checks-passed}
 use Rattle.generator.specs.declared.Generation.{Generation}
 use Rattle.generator.specs.declared.Generation.the-variants.{Written as Made, Refused as Unmade}
-use Rattle.machine.specs.Step.{leaving, moving, entering, accepted, lineTest, clockTest, stepLine, stepOpened, stepOf, Outcome as StepOutcome, outcome as stepped}
+use Rattle.machine.specs.Step.{nextClock, leaving, moving, entering, accepted, lineTest, clockTest, stepLine, stepOpened, stepOf, Outcome as StepOutcome, outcome as stepped}
+use Rattle.machine.specs.Machine.{clockAfter}
+use Rattle.machine.specs.LentClock.{Lent, lent, clocked, lentStep}
 use Rattle.machine.specs.declared.Clock.{Clock}
 use Rattle.machine.specs.declared.Stepped.{Stepped}
-use Rattle.machine.specs.declared.Stepped.the-variants.{Refused as Unstepped}
+use Rattle.machine.specs.declared.Stepped.the-variants.{Filling, Wrote, Refused as Unstepped}
 use Rattle.machine.proofs.Effects.{length-entering, entering-behind, length-moving, moving-behind}
 use Rattle.network.specs.declared.setting.Setting.the-variants.{Written, Refused as Unset}
 
@@ -133,11 +135,15 @@ module _ (file : List ℕ) (clock : Clock) (first second words out : List ℕ) w
     pub second-only : Only (2 * n) second second′
     pub out-only : Only w out out′
 
+  -- what an accepted step answers: the next clock, with `filling` or that w words were written
+  abbrev pub goesOn : ℕ → ℕ → Stepped
+  goesOn n w = ifLt (clock .fill) 2 (Filling (nextClock (cycles n w) clock)) (Wrote (nextClock (cycles n w) clock))
+
   pub StepLends : StepOutcome → Type 0
   StepLends o =
       ((r : Refusal) × (o ≡ stepped (Unstepped r) first second out))
-      ⊎ ((n : ℕ) × (w : ℕ) × (answer : Stepped) × (first′ : List ℕ) × (second′ : List ℕ) × (out′ : List ℕ)
-      × (o ≡ stepped answer first′ second′ out′) × Moved n w first′ second′ out′)
+      ⊎ ((n : ℕ) × (w : ℕ) × (first′ : List ℕ) × (second′ : List ℕ) × (out′ : List ℕ)
+      × (o ≡ stepped (goesOn n w) first′ second′ out′) × Moved n w first′ second′ out′)
 
   step-set : (n w : ℕ) → openOf file ≡ Set (shapeOf n w) → Dims n w → StepLends (stepLine n w file clock first second words out)
   unfolding StepLends stepLine clockTest lineTest accepted strays
@@ -161,7 +167,7 @@ module _ (file : List ℕ) (clock : Clock) (first second words out : List ℕ) w
       ifLt-cases (Only (2 * n) second) (clock .fill) 1 _ _ (λ _. only-none) (λ some. moves some) in
       let done : (1 ≤ clock .fill → Only (2 * n) second (moving n w file clock first w second))
       → StepLends (accepted n w file clock first second words out) = λ moves.
-      inr (n, w, _, _, _, _, refl, record { opened = opened; first-only = taken; second-only = through moves; out-only = given }) in
+      inr (n, w, _, _, _, refl, record { opened = opened; first-only = taken; second-only = through moves; out-only = given }) in
       ifLt-cases StepLends (clock .fill) 1 _ _ (λ none. done (λ some. absurd (omega arith))) λ some.
       choose-cases StepLends (readStrays n w file (clock .cycle)) _ _ (λ _. inl (_, refl)) λ reads.
       choose-cases StepLends (carryStrays n w file (clock .cycle)) _ _ (λ _. inl (_, refl)) λ carries.
@@ -182,3 +188,34 @@ module _ (file : List ℕ) (clock : Clock) (first second words out : List ℕ) w
       (λ r. rw (r .0) (step-set (headerWords file) (headerWidth file) (r .0) (r .1 .dims)))
       (λ r. rw (r .1) (step-refused (r .0)))
       (open-cases file)
+
+  -- a step on a lent clock: refused, the clock too is as it was, else it is the next clock
+  pub LentLends : Lent → Type 0
+  LentLends o =
+      ((r : Refusal) × (o ≡ lent (Unstepped r) clock first second out))
+      ⊎ ((n : ℕ) × (w : ℕ) × (first′ : List ℕ) × (second′ : List ℕ) × (out′ : List ℕ)
+      × (o ≡ lent (goesOn n w) (nextClock (cycles n w) clock) first′ second′ out′) × Moved n w first′ second′ out′)
+
+  goes-on : (n w : ℕ) → clockAfter (goesOn n w) clock ≡ nextClock (cycles n w) clock
+  unfolding clockAfter
+  goes-on n w =
+      ifLt-cases (λ (a : Stepped). clockAfter a clock ≡ nextClock (cycles n w) clock) (clock .fill) 2 _ _ (λ _. refl) (λ _. refl)
+
+  with-clock : (o : StepOutcome) → StepLends o → LentLends (clocked o clock)
+  unfolding StepLends LentLends clocked clockAfter
+  with-clock o = ⊎-elim
+      (λ r. inl (r .0, ap (λ (x : StepOutcome). clocked x clock) (r .1)))
+      (λ r. inr (
+        r .0,
+        r .1,
+        r .2,
+        r .3,
+        r .4,
+        ap (λ (x : StepOutcome). clocked x clock) (r .5)
+            ∙ ap (λ (c : Clock). lent (goesOn (r .0) (r .1)) c (r .2) (r .3) (r .4)) (goes-on (r .0) (r .1)),
+        r .6,
+      ))
+
+  pub step-lent-lends : LentLends (lentStep file clock first second words out)
+  unfolding lentStep
+  step-lent-lends = with-clock (stepOf file clock first second words out) step-lends

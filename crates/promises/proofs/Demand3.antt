@@ -15,7 +15,9 @@ use Rattle.tables.proofs.Exact.{read-performs, generated-reads}
 use Rattle.machine.specs.Devices.{Feed, run}
 use Rattle.machine.specs.Step.{fresh}
 use Rattle.machine.specs.Machine.{machine}
+use Rattle.machine.specs.LentClock.{lentMachine}
 use Rattle.machine.specs.Plain.{plain, empty}
+use Rattle.machine.proofs.LentClock.{lent-run}
 use Rattle.machine.proofs.Theorem.{machine-is-plain, generated-is-plain}
 use Rattle.generator.specs.Generating.{Filled, Generates}
 use Rattle.generator.proofs.Checking.{Passed, passed-checks}
@@ -74,3 +76,22 @@ demand-3 n w images file scratch answer file′ scratch′ R G =
       reads = λ out memory l m. generated-reads out memory (R .dims) (R .permutes) (F .schedule) l m;
       streams = generated-is-plain (R .dims) (R .permutes) (F .schedule);
     })
+
+-- The same of `lentMachine`, which is made of `lentStep`, which the contract of `machine::step_lent` cites: the clock stays lent, and each step
+-- alters it where it stands.
+pub sets-stream-lent : (file images scratch images′ : List ℕ) {n w : ℕ} → readOf file images scratch ≡ outcome (Read n w) images′
+    → (first second : List ℕ) → 2 * n ≤ length first → 2 * n ≤ length second → (steps : List Feed)
+    → run (lentMachine file) (record { clock = fresh; first = first; second = second }) steps ≡ run (plain n w (λ i. getD images′ i 0)) empty steps
+sets-stream-lent file images scratch images′ h first second long long′ steps =
+    lent-run file _ steps ∙ sets-stream file images scratch images′ h first second long long′ steps
+
+abbrev pub StreamingLent : Type 0
+StreamingLent = (n w : ℕ) (images file scratch : List ℕ) (answer : Generation) (file′ scratch′ : List ℕ)
+    → Passed n w images (length file) (length scratch) → Generates n w images file scratch answer file′ scratch′
+    → (first second : List ℕ) → 2 * n ≤ length first → 2 * n ≤ length second → (steps : List Feed)
+    → run (lentMachine (take (fileLength n w) file′)) (record { clock = fresh; first = first; second = second }) steps
+    ≡ run (plain n w (λ i. getD images i 0)) empty steps
+
+pub demand-3-lent : StreamingLent
+demand-3-lent n w images file scratch answer file′ scratch′ R G first second long long′ steps =
+    lent-run (take (fileLength n w) file′) _ steps ∙ demand-3 n w images file scratch answer file′ scratch′ R G .streams first second long long′ steps
