@@ -17,7 +17,6 @@ use crate::Stepped;
 use refusal::Refusal;
 use tables::Opened;
 use tables::Shape;
-use tables::Transfers;
 use tables::any_from;
 use tables::line_at;
 use tables::open;
@@ -54,7 +53,7 @@ fn leave(second: &[u16], shape: Shape, clock: Clock, out: &mut [u16])
 // The words of a line move from half 1-h of the first memory to half h of the second. Bank k takes the word of the bank that leaves the
 // network on line k.
 fn move_line<'a>(
-    first: &'a [u16],
+    first: &[u16],
     second: &mut [u16],
     shape: Shape,
     clock: Clock,
@@ -106,10 +105,12 @@ fn answer(clock: Clock, cycles: usize) -> Stepped
 }
 
 // An accepted step with a line to move. It says the same of every file of which these are the line's moves.
-fn carry_on(
+fn carry_on<'a>(
     shape: Shape,
     clock: Clock,
-    moves: Transfers,
+    reads: &'a [u16],
+    sources: &'a [u8],
+    writes: &'a [u16],
     first: &mut [u16],
     second: &mut [u16],
     words: &[u16],
@@ -118,14 +119,11 @@ fn carry_on(
     requires { ⌜ (Dims (shape .words) (shape .width)) × (shape ≡ shapeOf (shape .words) (shape .width)) ⌝ }
     requires { ⌜ (2 * shape .words ≤ length (now first)) × (2 * shape .words ≤ length (now second)) × (shape .width ≤ length (now out)) × (length (now words) ≡ shape .width) ⌝ }
     requires { ⌜ (clock .cycle < cycles (shape .words) (shape .width)) × (clock .half < 2) × (1 ≤ clock .fill) × (clock .fill ≤ 2) ⌝ }
-    requires { ⌜ ((file : List ℕ) × (Line (shape .words) (shape .width) file (clock .cycle) (moves .reads) (moves .sources) (moves .writes)) × (strays (shape .words) (shape .width) file (clock .cycle) ≡ false)) ⌝ }
-    ensures { λ r. ⌜ ((file : List ℕ) → Line (shape .words) (shape .width) file (clock .cycle) (moves .reads) (moves .sources) (moves .writes) → strays (shape .words) (shape .width) file (clock .cycle) ≡ false → outcome r (now (first .exit)) (now (second .exit)) (now (out .exit)) ≡ accepted (shape .words) (shape .width) file clock (now (first .entry)) (now (second .entry)) (now (words .entry)) (now (out .entry))) ⌝ }
+    requires { ⌜ ((file : List ℕ) × (Line (shape .words) (shape .width) file (clock .cycle) (now reads) (now sources) (now writes)) × (strays (shape .words) (shape .width) file (clock .cycle) ≡ false)) ⌝ }
+    ensures { λ r. ⌜ ((file : List ℕ) → Line (shape .words) (shape .width) file (clock .cycle) (now (reads .entry)) (now (sources .entry)) (now (writes .entry)) → strays (shape .words) (shape .width) file (clock .cycle) ≡ false → outcome r (now (first .exit)) (now (second .exit)) (now (out .exit)) ≡ accepted (shape .words) (shape .width) file clock (now (first .entry)) (now (second .entry)) (now (words .entry)) (now (out .entry))) ⌝ }
 {
-    let reads = moves.reads;
-    let sources = moves.sources;
-    let writes = moves.writes;
     leave(second, shape, clock, out);
-    move_line(first, second, shape, clock, &reads, &sources, &writes);
+    move_line(first, second, shape, clock, reads, sources, writes);
     enter(first, shape, clock, words);
     answer(clock, shape.cycles)
 }
@@ -145,10 +143,19 @@ fn step_line(
     requires { ⌜ (clock .cycle < cycles (shape .words) (shape .width)) × (clock .half < 2) × (1 ≤ clock .fill) × (clock .fill ≤ 2) ⌝ }
     ensures { λ r. ⌜ outcome r (now (first .exit)) (now (second .exit)) (now (out .exit)) ≡ lineTest (shape .words) (shape .width) (now (file .entry)) clock (λ refusal. outcome (Refused refusal) (now (first .entry)) (now (second .entry)) (now (out .entry))) (accepted (shape .words) (shape .width) (now (file .entry)) clock (now (first .entry)) (now (second .entry)) (now (words .entry)) (now (out .entry))) ⌝ }
 {
-    let moves = line_at(file, shape, clock.cycle);
-    let reads = moves.reads;
-    let sources = moves.sources;
-    let writes = moves.writes;
+    let mut setting = [0u8; 321];
+    let mut reads = [0u16; 64];
+    let mut sources = [0u8; 64];
+    let mut writes = [0u16; 64];
+    line_at(
+        file,
+        shape,
+        clock.cycle,
+        &mut setting,
+        &mut reads,
+        &mut sources,
+        &mut writes,
+    );
     if any_from(&reads, shape.width, shape.cycles) {
         return Stepped::Refused(Refusal::ReadAddress(clock.cycle));
     }
@@ -158,7 +165,17 @@ fn step_line(
     if any_from(&writes, shape.width, shape.cycles) {
         return Stepped::Refused(Refusal::WriteAddress(clock.cycle));
     }
-    carry_on(shape, clock, moves, first, second, words, out)
+    carry_on(
+        shape,
+        clock,
+        &reads,
+        &sources,
+        &writes,
+        first,
+        second,
+        words,
+        out,
+    )
 }
 
 // A step whose buffers and clock passed their tests. Until a frame is held words only enter.

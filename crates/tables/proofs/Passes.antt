@@ -23,7 +23,7 @@ fronts-sized d {lines} {count} found standing S l m = (length-take-le lines stan
 
 -- a pass over the front of the numbered lines
 pub sources-routed : {d at lines count : ℕ} {file found after : List ℕ} (standing : List ℕ) → Sized lines count d → lines ≤ 64
-    → Switches file at count found → (length standing ≡ 64) × ((x : ℕ) → x < 64 → getD standing x 0 ≡ x)
+    → Switches file at count found → (length standing ≡ 64) × ((x : ℕ) → x < lines → getD standing x 0 ≡ x)
     → Routed d (take count found) (take lines standing) after → Sources d file at (after ++ drop lines standing)
 sources-routed {d} {at} {lines} {count} {file} {found} {after} standing S few W N R = record {
   long = simp (length-append, length-drop) (omega (arith, N .0, long));

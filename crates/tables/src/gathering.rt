@@ -75,25 +75,27 @@ fn gather_line(
     t: usize,
     places: &mut [u16],
     words: &mut [u16],
+    setting: &mut [u8],
+    reads: &mut [u16],
+    standing: &mut [u8],
+    writes: &mut [u16],
 ) -> Gathered
     requires { ⌜ (Dims (shape .words) (shape .width)) × (shape ≡ shapeOf (shape .words) (shape .width)) × (t < cycles (shape .words) (shape .width)) ⌝ }
+    requires { ⌜ (length (now setting) ≡ 321) × (length (now reads) ≡ 64) × (length (now standing) ≡ 64) × (length (now writes) ≡ 64) ⌝ }
     requires { ⌜ Gather (shape .words) (shape .width) (now file) t (now places) (now words) ⌝ }
     ensures { λ r. ⌜ Gathers (shape .words) (shape .width) (now (file .entry)) t r (now (places .exit)) (now (words .exit)) ⌝ }
 {
-    let moves = line_at(file, shape, t);
-    let reads = moves.reads;
-    let sources = moves.sources;
-    let writes = moves.writes;
-    if fault(&reads, places, shape.width, shape.cycles) {
+    line_at(file, shape, t, setting, reads, standing, writes);
+    if fault(reads, places, shape.width, shape.cycles) {
         return Gathered::Refused(Refusal::ReadAddress(t));
     }
-    if spare_used(&sources, shape.width, shape.lines) {
+    if spare_used(standing, shape.width, shape.lines) {
         return Gathered::Refused(Refusal::SpareLine(t));
     }
-    if fault(&writes, words, shape.width, shape.cycles) {
+    if fault(writes, words, shape.width, shape.cycles) {
         return Gathered::Refused(Refusal::WriteAddress(t));
     }
-    mark(&reads, &sources, &writes, places, words, shape.width);
+    mark(reads, standing, writes, places, words, shape.width);
     Gathered::All
 }
 
@@ -104,9 +106,23 @@ pub fn gather(file: &[u8], shape: Shape, places: &mut [u16], words: &mut [u16]) 
     ensures { λ r. ⌜ GathersAll (shape .words) (shape .width) (now (file .entry)) r (now (places .exit)) (now (words .exit)) ⌝ }
 {
     let cycles = shape.cycles;
+    let mut setting = [0u8; 321];
+    let mut reads = [0u16; 64];
+    let mut standing = [0u8; 64];
+    let mut writes = [0u16; 64];
     let mut t = 0;
     while t < cycles {
-        let gathered = gather_line(file, shape, t, places, words);
+        let gathered = gather_line(
+            file,
+            shape,
+            t,
+            places,
+            words,
+            &mut setting,
+            &mut reads,
+            &mut standing,
+            &mut writes,
+        );
         if let Gathered::Refused(refusal) = gathered {
             return Gathered::Refused(refusal);
         }

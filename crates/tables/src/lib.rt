@@ -40,16 +40,6 @@ pub enum Opened {
     Refused(Refusal),
 }
 
-// What a line of a set does. Only the entries of the set's banks and lines count.
-pub struct Transfers {
-    // The address that each bank of the first memory reads.
-    pub reads: [u16; 64],
-    // The line that leaves the network on each line.
-    pub sources: [u8; 64],
-    // The address that each bank of the second memory writes.
-    pub writes: [u16; 64],
-}
-
 pub enum Reading {
     // n and w, beside the written images.
     Read(usize, usize),

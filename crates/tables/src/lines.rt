@@ -9,28 +9,24 @@ ghost use Rattle.tables.specs.Terms.{Dims, cycles};
 ghost use Rattle.tables.specs.Format.{shapeOf};
 ghost use Rattle.tables.specs.Lines.{Addresses, Switches, Sources, Line, spareUsed};
 use crate::Shape;
-use crate::Transfers;
 
 // The `count` addresses of `address` bits each that stand from bit `at` on.
-fn addresses(file: &[u8], at: usize, address: usize, count: usize) -> [u16; 64]
-    requires { ⌜ (address ≤ 16) × (count ≤ 64) × (at < 2 ^ 32) ⌝ }
-    ensures { λ r. ⌜ Addresses (now (file .entry)) at address count r ⌝ }
+fn addresses(file: &[u8], at: usize, address: usize, count: usize, found: &mut [u16])
+    requires { ⌜ (address ≤ 16) × (count ≤ 64) × (at < 2 ^ 32) × (length (now found) ≡ 64) ⌝ }
+    ensures { λ _. ⌜ Addresses (now (file .entry)) at address count (now (found .exit)) ⌝ }
 {
-    let mut found = [0u16; 64];
     let mut b = 0;
     while b < count {
         found[b] = bits::field_at(file, at + b * address, address);
         b += 1;
     }
-    found
 }
 
 // The `count` switch bits that stand from bit `at` on, taken eight at a time.
-fn switches(file: &[u8], at: usize, count: usize) -> [u8; 321]
-    requires { ⌜ (count ≤ 321) × (at < 2 ^ 32) ⌝ }
-    ensures { λ r. ⌜ Switches (now (file .entry)) at count r ⌝ }
+fn switches(file: &[u8], at: usize, count: usize, found: &mut [u8])
+    requires { ⌜ (count ≤ 321) × (at < 2 ^ 32) × (length (now found) ≡ 321) ⌝ }
+    ensures { λ _. ⌜ Switches (now (file .entry)) at count (now (found .exit)) ⌝ }
 {
-    let mut found = [0u8; 321];
     let mut eight: u16 = 0;
     let mut i = 0;
     while i < count {
@@ -40,19 +36,73 @@ fn switches(file: &[u8], at: usize, count: usize) -> [u8; 321]
         found[i] = ((eight >> (7 - i % 8)) % 2) as u8;
         i += 1;
     }
-    found
 }
 
-// The line that leaves on each of `lines` lines of a network, whose `count` bits stand from bit `at` on.
-fn sources(file: &[u8], at: usize, lines: usize, count: usize) -> [u8; 64]
-    requires { ⌜ ((d : ℕ) × Sized lines count d) ⌝ }
-    requires { ⌜ (lines ≤ 64) × (count ≤ 321) × (at < 2 ^ 32) ⌝ }
-    ensures { λ r. ⌜ ((d : ℕ) → Sized lines count d → Sources d (now (file .entry)) at r) ⌝ }
+// Each of the first `lines` lines gets its own number.
+fn number(standing: &mut [u8], lines: usize)
+    requires { ⌜ (lines ≤ 64) × (length (now standing) ≡ 64) ⌝ }
+    ensures { λ _. ⌜ (length (now (standing .exit)) ≡ 64) × ((x : ℕ) → x < lines → getD (now (standing .exit)) x 0 ≡ x) ⌝ }
 {
-    let found = switches(file, at, count);
-    let mut standing = numbered();
-    network::route(&found[..count], &mut standing[..lines]);
-    standing
+    let mut x = 0;
+    while x < lines {
+        standing[x] = x as u8;
+        x += 1;
+    }
+}
+
+// The line that leaves on each of `lines` lines of a network, whose `count` bits stand from bit `at` on. The bits are put in `setting`.
+fn sources(
+    file: &[u8],
+    at: usize,
+    lines: usize,
+    count: usize,
+    setting: &mut [u8],
+    standing: &mut [u8],
+)
+    requires { ⌜ ((d : ℕ) × Sized lines count d) ⌝ }
+    requires { ⌜ (lines ≤ 64) × (count ≤ 321) × (at < 2 ^ 32) × (length (now setting) ≡ 321) × (length (now standing) ≡ 64) ⌝ }
+    ensures { λ _. ⌜ (length (now (setting .exit)) ≡ 321) × ((d : ℕ) → Sized lines count d → Sources d (now (file .entry)) at (now (standing .exit))) ⌝ }
+{
+    switches(file, at, count, setting);
+    number(standing, lines);
+    network::route(&setting[..count], &mut standing[..lines]);
+}
+
+// What line t of a set does: the address that each bank of the first memory reads, the line that leaves the network on each line, and the
+// address that each bank of the second memory writes. Only the entries of the set's banks and lines count. The caller lends the arrays, so
+// that they are made once for many lines. Only our own crates call it, with the shape of a set and one of its lines.
+pub fn line_at(
+    file: &[u8],
+    shape: Shape,
+    t: usize,
+    setting: &mut [u8],
+    reads: &mut [u16],
+    standing: &mut [u8],
+    writes: &mut [u16],
+)
+    requires { ⌜ (Dims (shape .words) (shape .width)) × (shape ≡ shapeOf (shape .words) (shape .width)) ⌝ }
+    requires { ⌜ t < cycles (shape .words) (shape .width) ⌝ }
+    requires { ⌜ (length (now setting) ≡ 321) × (length (now reads) ≡ 64) × (length (now standing) ≡ 64) × (length (now writes) ≡ 64) ⌝ }
+    ensures { λ _. ⌜ (length (now (setting .exit)) ≡ 321) × Line (shape .words) (shape .width) (now (file .entry)) t (now (reads .exit)) (now (standing .exit)) (now (writes .exit)) ⌝ }
+{
+    let at = shape.start + t * shape.stride;
+    let row = shape.width * shape.address;
+    addresses(file, at, shape.address, shape.width, reads);
+    sources(
+        file,
+        at + row,
+        shape.lines,
+        shape.switches,
+        setting,
+        standing,
+    );
+    addresses(
+        file,
+        at + row + shape.switches,
+        shape.address,
+        shape.width,
+        writes,
+    );
 }
 
 // Each of 64 lines with its own number. Only our own crates need it.
@@ -60,30 +110,8 @@ pub fn numbered() -> [u8; 64]
     ensures { λ r. ⌜ (length r ≡ 64) × ((x : ℕ) → x < 64 → getD r x 0 ≡ x) ⌝ }
 {
     let mut standing = [0u8; 64];
-    let mut x = 0;
-    while x < 64 {
-        standing[x] = x as u8;
-        x += 1;
-    }
+    number(&mut standing, 64);
     standing
-}
-
-// What line t of a set does. Only our own crates call it, with the shape of a set and one of its lines.
-pub fn line_at(file: &[u8], shape: Shape, t: usize) -> Transfers
-    requires { ⌜ (Dims (shape .words) (shape .width)) × (shape ≡ shapeOf (shape .words) (shape .width)) ⌝ }
-    requires { ⌜ t < cycles (shape .words) (shape .width) ⌝ }
-    ensures { λ r. ⌜ Line (shape .words) (shape .width) (now (file .entry)) t (r .reads) (r .sources) (r .writes) ⌝ }
-{
-    let at = shape.start + t * shape.stride;
-    let row = shape.width * shape.address;
-    let reads = addresses(file, at, shape.address, shape.width);
-    let standing = sources(file, at + row, shape.lines, shape.switches);
-    let writes = addresses(file, at + row + shape.switches, shape.address, shape.width);
-    Transfers {
-        reads,
-        sources: standing,
-        writes,
-    }
 }
 
 // Whether one of the first `count` addresses is `limit` or more. Only our own crates call it.

@@ -12,15 +12,6 @@ use Rattle.machine.proofs.stepping.carry_on.Tie as tie
 leave-requires : tie.Need-leave-requires
 leave-requires c κs = search needs
 
-slice-aggregate-move-line : tie.Need-slice-aggregate-move-line
-slice-aggregate-move-line c = search needs
-
-slice-aggregate-move-line-2 : tie.Need-slice-aggregate-move-line-2
-slice-aggregate-move-line-2 c = search needs
-
-slice-aggregate-move-line-3 : tie.Need-slice-aggregate-move-line-3
-slice-aggregate-move-line-3 c = search needs
-
 move-line-requires : tie.Need-move-line-requires
 move-line-requires c κs = search needs
 
@@ -29,7 +20,7 @@ enter-requires c κs = search needs
 
 answer-requires : tie.Need-answer-requires
 answer-requires c κs =
-    let s = c .before .before .before .before .before .before .before .before .before .before .before .before .before .before .before .before .before .before .before .before .before .before .before .before in (
+    let s = c .before .before .before .before .before .before .before .before .before .before .before .before .before .before .before .before .before .before .before .before .before in (
       omega (arith, s .pre, shape-cycles (s .args .shape) (s .pre .0 .1)),
       shape-few (s .args .shape) (s .pre .0 .0) (s .pre .0 .1),
       s .pre .1 .1 .0 .1,
@@ -47,10 +38,10 @@ same-length-3 c = search needs
 
 returns : tie.Need-returns
 returns c =
-    let s = c .before .before .before .before .before .before .before .before .before .before .before .before .before .before .before .before .before .before .before .before .before .before .before .before .before in
+    let s = c .before .before .before .before .before .before .before .before .before .before .before .before .before .before .before .before .before .before .before .before .before .before in
     λ file line within.
     outcome-same (c .answer .ensures ∙ ap (λ (z : ℕ). saying z (s .args .clock)) (shape-cycles (s .args .shape) (s .pre .0 .1)))
-    (c .before .before .before .enter .ensures) (c .before .before .before .before .before .before .before .move-line .ensures file line within) (c .before .before .before .before .before .before .before .before .before .before .before .before .before .before .before .leave .ensures)
+    (c .before .before .before .enter .ensures) (c .before .before .before .before .before .before .before .move-line .ensures file line within) (c .before .before .before .before .before .before .before .before .before .before .before .before .leave .ensures)
     ∙ accepted-moving (s .args .shape .words) (s .args .shape .width) file (s .args .clock) (s .args .first .now) (s .args .second .now)
     (s .args .words .now) (s .args .out .now) (s .pre .1 .1 .0 .2)
 
@@ -59,9 +50,6 @@ carry-on-spec =
     tie.close
     (tie.spec
     leave-requires
-    slice-aggregate-move-line
-    slice-aggregate-move-line-2
-    slice-aggregate-move-line-3
     move-line-requires
     enter-requires
     answer-requires

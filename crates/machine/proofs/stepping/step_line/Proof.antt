@@ -17,28 +17,41 @@ abbrev own : (ℕ → ℕ → List ℕ → ℕ → Bool) → tie.Start → Bool
 own test s = test (s .args .shape .words) (s .args .shape .width) (s .args .file .now) (s .args .clock .cycle)
 
 -- what each test that was passed says
-no-read : (c : tie.Else1) → own readStrays (c .before .before .before .before .before .before .before .before .before .before .before .before) ≡ false
+no-read : (c : tie.Else1) → own readStrays (c .before .before .before .before .before .before .before .before .before .before .before .before .before .before .before .before .before) ≡ false
 no-read c =
-    let s = c .before .before .before .before .before .before .before .before .before .before .before .before in
-    sym (reads-stray (c .before .before .before .before .before .before .line-at .ensures)) ∙ rw (shape-cycles (s .args .shape) (s .pre .0 .1)) at (sym (c .before .any-from .ensures) ∙ c .if1 .left)
+    let s = c .before .before .before .before .before .before .before .before .before .before .before .before .before .before .before .before .before in
+    sym (reads-stray (c .before .before .before .before .before .before .before .line-at .ensures .1))
+    ∙ rw (shape-cycles (s .args .shape) (s .pre .0 .1)) at (sym (c .before .any-from .ensures) ∙ c .if1 .left)
 
-no-carry : (c : tie.Else2) → own carryStrays (c .before .before .before .before .before .before .before .before .before .before .before .before .before .before .before) ≡ false
+no-carry : (c : tie.Else2) → own carryStrays (c .before .before .before .before .before .before .before .before .before .before .before .before .before .before .before .before .before .before .before .before) ≡ false
 no-carry c =
-    let s = c .before .before .before .before .before .before .before .before .before .before .before .before .before .before .before in
-    sym (spare-strays (c .before .before .before .before .before .before .before .before .before .line-at .ensures)) ∙ rw (shape-lines (s .args .shape) (s .pre .0 .1)) at (sym (c .before .spare-used .ensures) ∙ c .if2 .left)
+    let s = c .before .before .before .before .before .before .before .before .before .before .before .before .before .before .before .before .before .before .before .before in
+    sym (spare-strays (c .before .before .before .before .before .before .before .before .before .before .line-at .ensures .1))
+    ∙ rw (shape-lines (s .args .shape) (s .pre .0 .1)) at (sym (c .before .spare-used .ensures) ∙ c .if2 .left)
 
-no-write : (c : tie.Else3) → own writeStrays (c .before .before .before .before .before .before .before .before .before .before .before .before .before .before .before .before .before .before) ≡ false
+no-write : (c : tie.Else3) → own writeStrays (c .before .before .before .before .before .before .before .before .before .before .before .before .before .before .before .before .before .before .before .before .before .before .before) ≡ false
 no-write c =
-    let s = c .before .before .before .before .before .before .before .before .before .before .before .before .before .before .before .before .before .before in
-    sym (writes-stray (c .before .before .before .before .before .before .before .before .before .before .before .before .line-at .ensures)) ∙ rw (shape-cycles (s .args .shape) (s .pre .0 .1)) at (sym (c .before .any-from2 .ensures) ∙ c .if3 .left)
+    let s = c .before .before .before .before .before .before .before .before .before .before .before .before .before .before .before .before .before .before .before .before .before .before .before in
+    sym (writes-stray (c .before .before .before .before .before .before .before .before .before .before .before .before .before .line-at .ensures .1))
+    ∙ rw (shape-cycles (s .args .shape) (s .pre .0 .1)) at (sym (c .before .any-from2 .ensures) ∙ c .if3 .left)
 
-none : (c : tie.Else3) → own strays (c .before .before .before .before .before .before .before .before .before .before .before .before .before .before .before .before .before .before) ≡ false
+none : (c : tie.Else3) → own strays (c .before .before .before .before .before .before .before .before .before .before .before .before .before .before .before .before .before .before .before .before .before .before .before) ≡ false
 none c = none-stray _ _ _ _ (no-read (c .before .before .before .before .before .before)) (no-carry (c .before .before .before)) (no-write c)
 
+slice-aggregate-line-at : tie.Need-slice-aggregate-line-at
+slice-aggregate-line-at c = search needs
+
+slice-aggregate-line-at-2 : tie.Need-slice-aggregate-line-at-2
+slice-aggregate-line-at-2 c = search needs
+
+slice-aggregate-line-at-3 : tie.Need-slice-aggregate-line-at-3
+slice-aggregate-line-at-3 c = search needs
+
+slice-aggregate-line-at-4 : tie.Need-slice-aggregate-line-at-4
+slice-aggregate-line-at-4 c = search needs
+
 line-at-requires : tie.Need-line-at-requires
-line-at-requires c κs =
-    let s = c .before .before .before .before .before in
-    (s .pre .0, omega (arith, s .pre .1 .1 .0, cycles-positive (s .pre .0 .0)))
+line-at-requires c κs = search needs
 
 slice-aggregate-any-from : tie.Need-slice-aggregate-any-from
 slice-aggregate-any-from c = search needs
@@ -48,9 +61,9 @@ any-from-requires c κs = search needs
 
 returns : tie.Need-returns
 returns c =
-    let s = c .before .before .before .before .before .before .before .before .before .before .before .before in
-    let e = shape-cycles (s .args .shape) (s .pre .0 .1) in
-    let far = sym (reads-stray (c .before .before .before .before .before .before .line-at .ensures)) ∙ rw e at (sym (c .before .any-from .ensures) ∙ c .if1 .taken) in
+    let s = c .before .before .before .before .before .before .before .before .before .before .before .before .before .before .before .before .before in
+    let far = sym (reads-stray (c .before .before .before .before .before .before .before .line-at .ensures .1))
+    ∙ rw (shape-cycles (s .args .shape) (s .pre .0 .1)) at (sym (c .before .any-from .ensures) ∙ c .if1 .taken) in
     read-refused _ _ _ _ _ _ (s .pre .1 .1 .2) far
 
 slice-aggregate-spare-used : tie.Need-slice-aggregate-spare-used
@@ -58,14 +71,15 @@ slice-aggregate-spare-used c = search needs
 
 spare-used-requires : tie.Need-spare-used-requires
 spare-used-requires c κs =
-    let s = c .before .before .before .before .before .before .before .before .before .before .before .before .before in
+    let s = c .before .before .before .before .before .before .before .before .before .before .before .before .before .before .before .before .before .before in
     let v = shape-lines (s .args .shape) (s .pre .0 .1) in
-    (rw v (depth-reaches (s .args .shape .width)), omega (arith, c .before .before .before .before .before .before .before .line-at .ensures .carrying .long, v, lines-few (s .pre .0 .0)))
+    (rw v (depth-reaches (s .args .shape .width)), omega (arith, c .before .before .before .before .before .before .before .before .line-at .ensures .1 .carrying .long, v, lines-few (s .pre .0 .0)))
 
 returns-2 : tie.Need-returns-2
 returns-2 c =
-    let s = c .before .before .before .before .before .before .before .before .before .before .before .before .before .before .before in
-    let far = sym (spare-strays (c .before .before .before .before .before .before .before .before .before .line-at .ensures)) ∙ rw (shape-lines (s .args .shape) (s .pre .0 .1)) at (sym (c .before .spare-used .ensures) ∙ c .if2 .taken) in
+    let s = c .before .before .before .before .before .before .before .before .before .before .before .before .before .before .before .before .before .before .before .before in
+    let far = sym (spare-strays (c .before .before .before .before .before .before .before .before .before .before .line-at .ensures .1))
+    ∙ rw (shape-lines (s .args .shape) (s .pre .0 .1)) at (sym (c .before .spare-used .ensures) ∙ c .if2 .taken) in
     carry-refused _ _ _ _ _ _ (s .pre .1 .1 .2) (no-read (c .before .before .before)) far
 
 slice-aggregate-any-from-2 : tie.Need-slice-aggregate-any-from-2
@@ -76,15 +90,24 @@ any-from-requires-2 c κs = search needs
 
 returns-3 : tie.Need-returns-3
 returns-3 c =
-    let s = c .before .before .before .before .before .before .before .before .before .before .before .before .before .before .before .before .before .before in
-    let e = shape-cycles (s .args .shape) (s .pre .0 .1) in
-    let far = sym (writes-stray (c .before .before .before .before .before .before .before .before .before .before .before .before .line-at .ensures)) ∙ rw e at (sym (c .before .any-from2 .ensures) ∙ c .if3 .taken) in
+    let s = c .before .before .before .before .before .before .before .before .before .before .before .before .before .before .before .before .before .before .before .before .before .before .before in
+    let far = sym (writes-stray (c .before .before .before .before .before .before .before .before .before .before .before .before .before .line-at .ensures .1))
+    ∙ rw (shape-cycles (s .args .shape) (s .pre .0 .1)) at (sym (c .before .any-from2 .ensures) ∙ c .if3 .taken) in
     write-refused _ _ _ _ _ _ (s .pre .1 .1 .2) (no-read (c .before .before .before .before .before .before)) (no-carry (c .before .before .before)) far
+
+slice-aggregate-carry-on : tie.Need-slice-aggregate-carry-on
+slice-aggregate-carry-on c = search needs
+
+slice-aggregate-carry-on-2 : tie.Need-slice-aggregate-carry-on-2
+slice-aggregate-carry-on-2 c = search needs
+
+slice-aggregate-carry-on-3 : tie.Need-slice-aggregate-carry-on-3
+slice-aggregate-carry-on-3 c = search needs
 
 carry-on-requires : tie.Need-carry-on-requires
 carry-on-requires c κs =
-    let s = c .before .before .before .before .before .before .before .before .before .before .before .before .before .before .before .before .before .before .before .before .before in
-    (s .pre .0, (s .pre .1 .0, (s .pre .1 .1, (s .args .file .now, c .before .before .before .before .before .before .before .before .before .before .before .before .before .before .before .line-at .ensures, none (c .before .before .before)))))
+    let s = c .before .before .before .before .before .before .before .before .before .before .before .before .before .before .before .before .before .before .before .before .before .before .before .before .before .before .before .before .before in
+    (s .pre .0, (s .pre .1 .0, (s .pre .1 .1, (s .args .file .now, c .before .before .before .before .before .before .before .before .before .before .before .before .before .before .before .before .before .before .before .line-at .ensures .1, none (c .before .before .before .before .before .before)))))
 
 same-length : tie.Need-same-length
 same-length c = search needs
@@ -97,14 +120,19 @@ same-length-3 c = search needs
 
 returns-4 : tie.Need-returns-4
 returns-4 c =
-    let s = c .before .before .before .before .before .before .before .before .before .before .before .before .before .before .before .before .before .before .before .before .before .before .before .before .before .before .before .before in
-    c .before .before .before .before .before .before .carry-on .ensures (s .args .file .now) (c .before .before .before .before .before .before .before .before .before .before .before .before .before .before .before .before .before .before .before .before .before .before .line-at .ensures) (none (c .before .before .before .before .before .before .before .before .before .before))
-    ∙ line-passed _ _ _ _ _ _ (s .pre .1 .1 .2) (no-read (c .before .before .before .before .before .before .before .before .before .before .before .before .before .before .before .before)) (no-carry (c .before .before .before .before .before .before .before .before .before .before .before .before .before)) (no-write (c .before .before .before .before .before .before .before .before .before .before))
+    let s = c .before .before .before .before .before .before .before .before .before .before .before .before .before .before .before .before .before .before .before .before .before .before .before .before .before .before .before .before .before .before .before .before .before .before .before .before in
+    let passed = c .before .before .before .before .before .before .before .before .before .before .before .before .before in
+    c .before .before .before .before .before .before .carry-on .ensures (s .args .file .now) (c .before .before .before .before .before .before .before .before .before .before .before .before .before .before .before .before .before .before .before .before .before .before .before .before .before .before .line-at .ensures .1) (none passed)
+    ∙ line-passed _ _ _ _ _ _ (s .pre .1 .1 .2) (no-read (c .before .before .before .before .before .before .before .before .before .before .before .before .before .before .before .before .before .before .before)) (no-carry (c .before .before .before .before .before .before .before .before .before .before .before .before .before .before .before .before)) (no-write passed)
 
 pub step-line-spec : {M : Type 1} → statement M
 step-line-spec =
     tie.close
     (tie.spec
+    slice-aggregate-line-at
+    slice-aggregate-line-at-2
+    slice-aggregate-line-at-3
+    slice-aggregate-line-at-4
     line-at-requires
     slice-aggregate-any-from
     any-from-requires
@@ -115,6 +143,9 @@ step-line-spec =
     slice-aggregate-any-from-2
     any-from-requires-2
     returns-3
+    slice-aggregate-carry-on
+    slice-aggregate-carry-on-2
+    slice-aggregate-carry-on-3
     carry-on-requires
     same-length
     same-length-2

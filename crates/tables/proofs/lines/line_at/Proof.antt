@@ -1,45 +1,59 @@
 -- `lines::line_at` meets its contract: each part of the line is read from where the shape says that it stands.
 use native.Mathlib.Omega.{arith}
 use Rattle.tables.proofs.Passes.{Fitting, line-fits, line-sized, line-read}
+use borrow.Author.Needs.{needs}
 use Rattle.tables.proofs.lines.line_at.Statement.{statement}
 use Rattle.tables.proofs.lines.line_at.Tie as tie
 
 fits-known : (s : tie.Start) → Fitting (s .args .shape) (s .args .t)
-fits-known s = line-fits (s .pre .0 .0) (s .pre .0 .1) (s .pre .1)
+fits-known s = line-fits (s .pre .0 .0) (s .pre .0 .1) (s .pre .1 .0)
 
 mul-at : tie.Need-mul-at
-mul-at c = omega (arith, fits-known (c .before .before))
+mul-at c = omega (arith, fits-known (c .before .before .before .before .before .before))
 
 add-at : tie.Need-add-at
-add-at c = omega (arith, fits-known (c .before .before .before))
+add-at c = omega (arith, fits-known (c .before .before .before .before .before .before .before))
 
 mul-row : tie.Need-mul-row
-mul-row c = omega (arith, fits-known (c .before .before .before .before))
+mul-row c = omega (arith, fits-known (c .before .before .before .before .before .before .before .before))
 
 addresses-requires : tie.Need-addresses-requires
-addresses-requires c κs = omega (arith, fits-known (c .before .before .before .before))
+addresses-requires c κs = let s = c .before .before .before .before .before .before .before .before .before in omega (arith, fits-known s, s .pre .1 .1)
 
 add-sources : tie.Need-add-sources
-add-sources c = omega (arith, fits-known (c .before .before .before .before .before))
+add-sources c = omega (arith, fits-known (c .before .before .before .before .before .before .before .before .before .before .before .before))
 
 sources-requires : tie.Need-sources-requires
 sources-requires c κs =
-    let s = c .before .before .before .before .before in
-    (line-sized (s .pre .0 .0) (s .pre .0 .1), omega (arith, fits-known s))
+    let s = c .before .before .before .before .before .before .before .before .before .before .before .before .before .before in
+    (line-sized (s .pre .0 .0) (s .pre .0 .1), omega (arith, fits-known s, s .pre .1 .1))
 
 add-addresses : tie.Need-add-addresses
-add-addresses c = omega (arith, fits-known (c .before .before .before .before .before .before))
+add-addresses c = omega (arith, fits-known (c .before .before .before .before .before .before .before .before .before .before .before .before .before .before .before .before .before .before .before))
 
 add-addresses-2 : tie.Need-add-addresses-2
-add-addresses-2 c = omega (arith, fits-known (c .before .before .before .before .before .before .before))
+add-addresses-2 c = omega (arith, fits-known (c .before .before .before .before .before .before .before .before .before .before .before .before .before .before .before .before .before .before .before .before))
 
 addresses-requires-2 : tie.Need-addresses-requires-2
-addresses-requires-2 c κs = omega (arith, fits-known (c .before .before .before .before .before .before .before))
+addresses-requires-2 c κs = let s = c .before .before .before .before .before .before .before .before .before .before .before .before .before .before .before .before .before .before .before .before .before in omega (arith, fits-known s, s .pre .1 .1)
+
+same-length : tie.Need-same-length
+same-length c = search needs
+
+same-length-2 : tie.Need-same-length-2
+same-length-2 c = search needs
+
+same-length-3 : tie.Need-same-length-3
+same-length-3 c = search needs
+
+same-length-4 : tie.Need-same-length-4
+same-length-4 c = search needs
 
 returns : tie.Need-returns
 returns c =
-    let s = c .before .before .before .before .before .before .before .before in
-    line-read (s .pre .0 .0) (s .pre .0 .1) (c .before .before .before .addresses .ensures) (c .before .before .sources .ensures) (c .addresses2 .ensures)
+    let s = c .before .before .before .before .before .before .before .before .before .before .before .before .before .before .before .before .before .before .before .before .before .before .before .before in
+    let standing = c .before .before .before .before .before .before .before .before .before .sources .ensures in
+    (standing .0, line-read (s .pre .0 .0) (s .pre .0 .1) (c .before .before .before .before .before .before .before .before .before .before .before .before .before .before .addresses .ensures) (standing .1) (c .before .before .addresses2 .ensures))
 
 pub line-at-spec : {M : Type 1} → statement M
 line-at-spec =
@@ -54,4 +68,8 @@ line-at-spec =
     add-addresses
     add-addresses-2
     addresses-requires-2
+    same-length
+    same-length-2
+    same-length-3
+    same-length-4
     returns)

@@ -10,49 +10,63 @@ use Rattle.tables.proofs.lines.sources.Tie as tie
 switches-requires : tie.Need-switches-requires
 switches-requires c κs = search needs
 
-numbered-requires : tie.Need-numbered-requires
-numbered-requires c κs = search needs
+number-requires : tie.Need-number-requires
+number-requires c κs = search needs
 
-array-share-prefix-found : tie.Need-array-share-prefix-found
-array-share-prefix-found c = search needs
+slice-reshare-prefix-route : tie.Need-slice-reshare-prefix-route
+slice-reshare-prefix-route c = search needs
 
 slice-aggregate-route : tie.Need-slice-aggregate-route
-slice-aggregate-route c = sym (length-take-le _ (c .before .before .switches .result) (omega (arith, c .before .before .switches .ensures .long)))
+slice-aggregate-route c =
+    let s = c .before .before .before .before .before .before .before .before .before .before .before .before in
+    sym (length-take-le _ (c .before .before .before .before .before .before .before .switches .last .1 .1 .1 .0) (omega (arith, c .before .before .before .before .before .before .before .switches .ensures .long, s .pre .1)))
 
-array-borrow-prefix-standing : tie.Need-array-borrow-prefix-standing
-array-borrow-prefix-standing c = search needs
+slice-relend-prefix-route : tie.Need-slice-relend-prefix-route
+slice-relend-prefix-route c = search needs
 
 slice-aggregate-route-2 : tie.Need-slice-aggregate-route-2
-slice-aggregate-route-2 c = sym (length-take-le _ (c .before .before .numbered .result) (omega (arith, c .before .before .numbered .ensures .0)))
+slice-aggregate-route-2 c =
+    let s = c .before .before .before .before .before .before .before .before .before .before .before .before .before in
+    sym (length-take-le _ (c .before .before .before .before .number .last .0) (omega (arith, c .before .before .before .before .number .ensures .0, s .pre .1)))
 
 route-requires : tie.Need-route-requires
 route-requires c κs =
-    let s = c .before .before .before .before .before in
-    let found = c .before .before .before .switches in
-    let standing = c .before .before .numbered in
-    let long = length-take-le (s .args .lines) (standing .result) (omega (arith, standing .ensures .0)) in
+    let s = c .before .before .before .before .before .before .before .before .before .before .before .before .before in
+    let found = c .before .before .before .before .before .before .before .before .switches in
+    let standing = c .before .before .before .before .number in
+    let long = length-take-le (s .args .lines) (standing .last .0) (omega (arith, standing .ensures .0, s .pre .1)) in
     let sized =
-    fronts-sized (s .pre .0 .0) (found .result) (standing .result) (s .pre .0 .1) (omega (arith, standing .ensures .0))
-    (omega (arith, found .ensures .long)) in
-    ((s .pre .0 .0, sized), omega arith)
+    fronts-sized (s .pre .0 .0) (found .last .1 .1 .1 .0) (standing .last .0) (s .pre .0 .1) (omega (arith, standing .ensures .0, s .pre .1))
+    (omega (arith, found .ensures .long, s .pre .1)) in
+    ((s .pre .0 .0, sized), omega (arith, long, s .pre .1))
+
+same-length : tie.Need-same-length
+same-length c = search needs
+
+same-length-2 : tie.Need-same-length-2
+same-length-2 c = search needs
 
 returns : tie.Need-returns
 returns c =
-    let s = c .before .before .before .before .before .before .before in
-    let found = c .before .before .before .before .before .switches in
-    let standing = c .before .before .before .before .numbered in
-    λ d S. sources-routed (standing .result) S (s .pre .1 .0) (found .ensures) (standing .ensures)
-    (c .before .route .ensures d (fronts-sized d (found .result) (standing .result) S (omega (arith, standing .ensures .0)) (omega (arith, found .ensures .long))))
+    let s = c .before .before .before .before .before .before .before .before .before .before .before .before .before .before .before .before in
+    let found = c .before .before .before .before .before .before .before .before .before .before .before .switches in
+    let standing = c .before .before .before .before .before .before .before .number in (
+      found .ensures .long,
+      λ d S. sources-routed (standing .last .0) S (s .pre .1 .0) (found .ensures) (standing .ensures)
+          (c .before .before .route .ensures d (fronts-sized d (found .last .1 .1 .1 .0) (standing .last .0) S (omega (arith, standing .ensures .0, s .pre .1)) (omega (arith, found .ensures .long, s .pre .1)))),
+    )
 
 pub sources-spec : {M : Type 1} → statement M
 sources-spec =
     tie.close
     (tie.spec
     switches-requires
-    numbered-requires
-    array-share-prefix-found
+    number-requires
+    slice-reshare-prefix-route
     slice-aggregate-route
-    array-borrow-prefix-standing
+    slice-relend-prefix-route
     slice-aggregate-route-2
     route-requires
+    same-length
+    same-length-2
     returns)

@@ -1,11 +1,10 @@
 -- `lines::switches` meets its contract: turn i fills entry i. From one read of the file to the next `eight` is the
 -- field of the eight bits around i.
 use Prim.Native.Nat.{ℕ, _+_, _*_, _-_, _/_, _%_, _<_, _≤_}
-use mathlib.Core.Path.{_≡_, ap, _∙_}
+use mathlib.Core.Path.{_≡_, sym, ap, _∙_}
 use mathlib.Core.Logic.{⊎-elim}
 use native.Mathlib.Omega.{arith}
 use borrow.Author.Needs.{needs}
-use lib.ListN.{length-replicate}
 use Rattle.bits.specs.Bits.{bit, field}
 use Rattle.network.proofs.Wires.{Filling, filling-more}
 use Rattle.tables.proofs.Scans.{bit-eight}
@@ -20,7 +19,7 @@ abbrev μ-loop : tie.MeasureT-loop
 μ-loop file at count found₀ eight₀ i₀ found eight i = count - i
 
 loop-holds : tie.Need-loop-holds Inv-loop μ-loop
-loop-holds c = (omega arith, record { long = length-replicate {A = ℕ} 321 0; filled = λ i l. absurd (omega arith) }, λ l. absurd (omega arith))
+loop-holds c = (omega arith, record { long = c .before .before .pre .2; filled = λ i l. absurd (omega arith) }, λ l. absurd (omega arith))
 
 add-field-at : tie.Need-add-field-at Inv-loop μ-loop
 add-field-at c = search needs
@@ -40,8 +39,8 @@ shr-found c = search needs
 cast-found-2 : tie.Need-cast-found-2 Inv-loop μ-loop
 cast-found-2 c = search needs
 
-array-write-found : tie.Need-array-write-found Inv-loop μ-loop
-array-write-found c = search needs
+slice-write-found : tie.Need-slice-write-found Inv-loop μ-loop
+slice-write-found c = omega (arith, c .before .before .before .loop .inv .1 .long, c .before .before .before .before .before .before .pre .0)
 
 add-i : tie.Need-add-i Inv-loop μ-loop
 add-i c = search needs
@@ -51,10 +50,10 @@ loop-less c = omega arith
 
 -- the eight bits around i, just read or read before
 eight-known : (c : tie.Joined1 Inv-loop μ-loop)
-    → let s = c .before .before .before .before in
+    → let s = c .before .before .before .before .before in
     c .if1 .eight ≡ field (s .args .file .now) (s .args .at + c .before .before .loop .i / 8 * 8) 8
 eight-known c =
-    let s = c .before .before .before .before in
+    let s = c .before .before .before .before .before in
     let i = c .before .before .loop .i in
     ⊎-elim
     (λ w. let q : i ≡ i / 8 * 8 = omega (arith, w .0 .taken) in w .2 ∙ w .1 .ensures ∙ ap (λ (z : ℕ). field (s .args .file .now) (s .args .at + z) 8) q)
@@ -63,13 +62,16 @@ eight-known c =
 
 loop-again : tie.Need-loop-again Inv-loop μ-loop
 loop-again c =
-    let s = c .before .before .before .before .before in
+    let s = c .before .before .before .before .before .before in
     let i = c .before .before .before .loop .i in
     let e = eight-known (c .before) in (
       omega arith,
       filling-more _ (c .before .before .before .loop .inv .1) (omega arith) (bit-eight (s .args .file .now) (s .args .at) i _ e),
       λ l. let q : i / 8 * 8 ≡ (i + 1) / 8 * 8 = omega arith in e ∙ ap (λ (z : ℕ). field (s .args .file .now) (s .args .at + z) 8) q,
     )
+
+same-length : tie.Need-same-length Inv-loop μ-loop
+same-length c = c .before .loop .inv .1 .long ∙ sym (c .before .before .before .before .pre .2)
 
 returns : tie.Need-returns Inv-loop μ-loop
 returns c = record { long = c .before .loop .inv .1 .long; each = λ i l. c .before .loop .inv .1 .filled i (omega arith) }
@@ -87,8 +89,9 @@ switches-spec =
     cast-found
     shr-found
     cast-found-2
-    array-write-found
+    slice-write-found
     add-i
     loop-less
     loop-again
+    same-length
     returns)
