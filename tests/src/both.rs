@@ -1,6 +1,7 @@
 //! Each call made twice on the same lent memory, by the proved library and by the second implementation. The answers are compared, and
 //! every lent word afterwards, guards included. Memory that a call only reads is given as it is.
 use crate::lent::Lent;
+use crate::orders::Random;
 use crate::second;
 use crate::{Clock, Refusal, Said};
 
@@ -141,4 +142,13 @@ pub fn step(
         );
     }
     answer
+}
+
+/// A set for a random order, made by the second implementation.
+pub fn set_of(n: usize, w: usize, random: &mut Random) -> Vec<u8> {
+    let order = random.order(n);
+    let mut file = vec![0; second::Dims::new(n, w).length];
+    let mut scratch = vec![0; 4 * n + 1024];
+    second::generate(n, w, &order, &mut file, &mut scratch).expect("a permutation is generated");
+    file
 }

@@ -1,8 +1,9 @@
 //! Reading whole, damaged, cut, lengthened and invented files, beside the second implementation.
+use rughtena_tests::both::set_of;
 use rughtena_tests::lent::Lent;
 use rughtena_tests::orders::{widths, Random};
 use rughtena_tests::second::Dims;
-use rughtena_tests::{both, refuse, second, Refusal};
+use rughtena_tests::{both, refuse, Refusal};
 
 type Answer = Result<(usize, usize, Vec<u16>), Refusal>;
 
@@ -11,14 +12,6 @@ fn read(file: &[u8], random: &mut Random) -> Answer {
     let images = Lent::words(random, most + more);
     let scratch = Lent::words(random, 2 * most + more);
     both::read(file, &images, &scratch)
-}
-
-fn set_of(n: usize, w: usize, random: &mut Random) -> Vec<u8> {
-    let order = random.order(n);
-    let mut file = vec![0; Dims::new(n, w).length];
-    let mut scratch = vec![0; 4 * n + 1024];
-    second::generate(n, w, &order, &mut file, &mut scratch).expect("a permutation is generated");
-    file
 }
 
 #[test]

@@ -1,0 +1,81 @@
+/* The stack memory that each call uses, in bytes. Each call runs in a thread whose stack was filled with a pattern; the deepest byte that
+ * changed tells how far the call reached. What the thread itself uses is measured first and taken off.
+ * Run: ./rughtena figures */
+#include <pthread.h>
+#include <rughtena.h>
+#include <stdio.h>
+#include <stdlib.h>
+#include <string.h>
+
+enum { N = 4096, STACK = 1 << 20, PATTERN = 0xa5 };
+
+static size_t width;
+static uint16_t images[N], read_images[N], scratch[4 * N + 1024], first[2 * N], second[2 * N], words[64], out[64];
+static uint8_t file[RUGHTENA_LONGEST_SET], values[RUGHTENA_MOST_SWITCHES];
+static size_t length;
+
+static void nothing(void) {}
+
+static void generate(void) {
+    length = rughtena_generate(N, width, images, N, file, sizeof file, scratch, sizeof scratch / 2).value;
+}
+
+static void read_set(void) { rughtena_read(file, length, read_images, N, scratch, 2 * N); }
+
+static void set(void) {
+    uint16_t lines[64];
+    for (size_t i = 0; i < 64; i++) {
+        lines[i] = (uint16_t)(63 - i);
+    }
+    rughtena_set(64, lines, 64, values, sizeof values);
+}
+
+static void follow(void) { rughtena_follow(64, values, sizeof values, 5); }
+
+static void step(void) {
+    rughtena_clock clock = {0, 0, 2};
+    rughtena_step(file, length, clock, first, 2 * N, second, 2 * N, words, width, out, 64);
+}
+
+static void *run(void *call) {
+    ((void (*)(void))call)();
+    return NULL;
+}
+
+static size_t depth(void (*call)(void)) {
+    unsigned char *stack = aligned_alloc(4096, STACK);
+    memset(stack, PATTERN, STACK);
+    pthread_attr_t attributes;
+    pthread_attr_init(&attributes);
+    pthread_attr_setstack(&attributes, stack, STACK);
+    pthread_t thread;
+    if (pthread_create(&thread, &attributes, run, (void *)call) != 0) {
+        exit(1);
+    }
+    pthread_join(thread, NULL);
+    size_t untouched = 0;
+    while (untouched < STACK && stack[untouched] == PATTERN) {
+        untouched++;
+    }
+    free(stack);
+    return STACK - untouched;
+}
+
+int main(void) {
+    for (size_t i = 0; i < N; i++) {
+        images[i] = (uint16_t)((i * 2731 + 17) % N);
+    }
+    const size_t widths[] = {1, 8, 64};
+    printf("| call | w | bytes of stack |\n| --- | --- | --- |\n");
+    for (size_t k = 0; k < 3; k++) {
+        width = widths[k];
+        const size_t thread = depth(nothing);
+        printf("| generate | %zu | %zu |\n", width, depth(generate) - thread);
+        printf("| read | %zu | %zu |\n", width, depth(read_set) - thread);
+        printf("| step | %zu | %zu |\n", width, depth(step) - thread);
+    }
+    const size_t thread = depth(nothing);
+    printf("| set | 64 | %zu |\n", depth(set) - thread);
+    printf("| follow | 64 | %zu |\n", depth(follow) - thread);
+    return 0;
+}
