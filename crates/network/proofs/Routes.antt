@@ -1,19 +1,23 @@
--- Laws of routing. `taken-more` and `joined-more` are one turn of the loops that take lines in and give them out. `routed-more` is one
--- level of the recursion: a line goes in by its input switch, through the inner network of its half, and out by an output switch.
+-- Laws of routing. `taken-more` and `joined-more` are one turn of the loops that take lines in and give them out, and `switched` is a
+-- network of two lines. `routed-more` is one level of the recursion: a line goes in by its input switch, through the inner network of its
+-- half, and out by an output switch.
 use Prim.Native.Nat.{ℕ, zero, suc, _+_, _*_, _-_, _/_, _%_, _^_, _<_, _≤_}
-use mathlib.Core.Path.{_≡_, refl, ap, _∙_}
+use mathlib.Core.Path.{_≡_, refl, sym, ap, _∙_}
 use mathlib.Core.List.{List, _++_}
-use native.Mathlib.Nat.{two-pow-succ}
+use native.Mathlib.Nat.{two-pow-succ, zero-add}
 use native.Mathlib.Omega.{arith}
 use native.Mathlib.Decide.{ℕ-discrete}
 use lib.Pow.{pow-pos}
-use lib.ListN.{length, getD, set, take, drop, length-set, List·getD-append}
+use lib.ListN.{length, getD, set, take, drop, length-set, List·getD-append, List·getD-eq-default}
 use lib.Seq.{getD-set-same, getD-set-other, getD-take, length-take-le, length-front}
+use Rattle.laws.specs.Choice.{ifLt, ifEq}
 use Rattle.laws.specs.Splice.{part}
+use Rattle.laws.proofs.Choices.{ifEq-yes, ifEq-no}
 use Rattle.laws.proofs.Splices.{length-part}
+use Rattle.laws.proofs.Tabulates.{stored-turn}
 use Rattle.network.specs.Network.{bitCount, half, exit, outputBit, leaves}
 use Rattle.network.specs.Calls.{Sized, Routed}
-use Rattle.network.specs.Steps.{Taken, Joined}
+use Rattle.network.specs.Steps.{Taken, Joined, Switched}
 use Rattle.network.proofs.Leaves.{leaves-below, leaves-part, outputBit-listed}
 
 -- taking in: no switch, and one more
@@ -21,53 +25,103 @@ module _ {bits lines : List ℕ} {h : ℕ} where
   pub taken-none : {inner : List ℕ} → length inner ≡ 32 → Taken 0 bits lines h inner
   taken-none long = record { long = long; each = λ j l. absurd (omega arith) }
 
-  pub taken-more : {n b : ℕ} {inner : List ℕ} → Taken n bits lines h inner → n < 32 → b ≡ getD bits n 0
-      → Taken (n + 1) bits lines h (set inner n (getD lines (2 * n + (h + b) % 2) 0))
-  taken-more {n} {inner = inner} old l e = record {
+  pub taken-more : {n i : ℕ} {inner : List ℕ} → Taken n bits lines h inner → n < 32 → i ≡ 2 * n + (h + getD bits n 0) % 2
+      → Taken (n + 1) bits lines h (set inner n (getD lines i 0))
+  taken-more {n} {i} {inner} old l e = record {
     long = length-set inner n _ ∙ old .long;
-    each = λ j m. elim (ℕ-discrete j n) [
-      | yes f ↦ rw (f, ← e) (getD-set-same inner n _ 0 (omega (arith, old .long)))
-      | no f ↦ getD-set-other inner n j _ 0 f ∙ old .each j (omega arith)
-    ];
+    each = stored-turn inner (λ j. j) (λ j. getD lines (2 * j + (h + getD bits j 0) % 2) 0) n _ 0 (omega (arith, old .long)) (λ j m q. omega arith)
+        (ap (λ (z : ℕ). getD lines z 0) e) (old .each);
   }
 
--- stores on the lines of switch n leave the lines of other switches
-other-switch : (lines : List ℕ) (n a b u v x : ℕ) → a / 2 ≡ n → b / 2 ≡ n → (x / 2 ≡ n → ⊥) → getD (set (set lines a u) b v) x 0 ≡ getD lines x 0
-other-switch lines n a b u v x ea eb f =
-    getD-set-other (set lines a u) b x v 0 (λ e. f (omega arith)) ∙ getD-set-other lines a x u 0 (λ e. f (omega arith))
+-- what stands behind a switch whose even and odd line are told by its bit: a came in on its first line and b on its second
+behind-switch : (after : List ℕ) (n bit a b : ℕ) → getD after (2 * n) 0 ≡ ifEq (bit % 2) 0 a b → getD after (2 * n + 1) 0 ≡ ifEq (bit % 2) 0 b a
+    → (getD after (2 * n + (0 + bit) % 2) 0 ≡ a) × (getD after (2 * n + (1 + bit) % 2) 0 ≡ b)
+behind-switch after n bit a b even odd = elim (ℕ-discrete (bit % 2) 0) [
+  | yes s ↦
+      let first : 2 * n + (0 + bit) % 2 ≡ 2 * n = omega arith in
+      let second : 2 * n + (1 + bit) % 2 ≡ 2 * n + 1 = omega arith in
+      (rw first (even ∙ sym (ifEq-yes (bit % 2) 0 a a b s refl)), rw second (odd ∙ sym (ifEq-yes (bit % 2) 0 b b a s refl)))
+  | no s ↦
+      let first : 2 * n + (0 + bit) % 2 ≡ 2 * n + 1 = omega arith in
+      let second : 2 * n + (1 + bit) % 2 ≡ 2 * n = omega arith in
+      (rw first (odd ∙ sym (ifEq-no (bit % 2) 0 a b a s refl)), rw second (even ∙ sym (ifEq-no (bit % 2) 0 b a b s refl)))
+]
 
--- giving out: no switch, and one more
+-- the lines of switch n after a store on each
+stored-even : (lines : List ℕ) (n u v : ℕ) → 2 * n + 1 < length lines → getD (set (set lines (2 * n) u) (2 * n + 1) v) (2 * n) 0 ≡ u
+stored-even lines n u v l =
+    getD-set-other (set lines (2 * n) u) (2 * n + 1) (2 * n) v 0 (λ q. omega arith) ∙ getD-set-same lines (2 * n) u 0 (omega arith)
+
+stored-odd : (lines : List ℕ) (n u v : ℕ) → 2 * n + 1 < length lines → getD (set (set lines (2 * n) u) (2 * n + 1) v) (2 * n + 1) 0 ≡ v
+stored-odd lines n u v l = getD-set-same (set lines (2 * n) u) (2 * n + 1) v 0 (rw (length-set lines (2 * n) u) l)
+
+-- the lines of other switches
+stored-other : (lines : List ℕ) (n u v x : ℕ) → (x / 2 ≡ n → ⊥) → getD (set (set lines (2 * n) u) (2 * n + 1) v) x 0 ≡ getD lines x 0
+stored-other lines n u v x f =
+    getD-set-other (set lines (2 * n) u) (2 * n + 1) x v 0 (λ e. f (omega arith)) ∙ getD-set-other lines (2 * n) x u 0 (λ e. f (omega arith))
+
+-- giving out: no switch, one more, and the last, which has no bit
 module _ {bits : List ℕ} {from : ℕ} {upper lower : List ℕ} where
   pub joined-none : {lines : List ℕ} → Joined 0 bits from upper lower lines
   joined-none = record { above = λ j l. absurd (omega arith); beneath = λ j l. absurd (omega arith) }
 
-  pub joined-more : {n b : ℕ} {lines : List ℕ} → Joined n bits from upper lower lines → 2 * n + 1 < length lines → b ≡ getD bits (from + n) 0
-      → Joined (n + 1) bits from upper lower (set (set lines (2 * n + b % 2) (getD upper n 0)) (2 * n + 1 - b % 2) (getD lower n 0))
-  joined-more {n} {b} {lines} old l e =
-      let output : ℕ → ℕ = λ i. getD bits (from + i) 0 in
-      let first : ℕ = 2 * n + b % 2 in
-      let second : ℕ = 2 * n + 1 - b % 2 in
-      let half-way : List ℕ = set lines first (getD upper n 0) in
-      let kept : (x : ℕ) → (x / 2 ≡ n → ⊥) → getD (set half-way second (getD lower n 0)) x 0 ≡ getD lines x 0 =
-      λ x. other-switch lines n first second _ _ x (omega arith) (omega arith) in
+  pub joined-more : {n bit u v : ℕ} {lines : List ℕ} → Joined n bits from upper lower lines → 2 * n + 1 < length lines → bit ≡ getD bits (from + n) 0
+      → u ≡ ifEq (bit % 2) 0 (getD upper n 0) (getD lower n 0) → v ≡ ifEq (bit % 2) 0 (getD lower n 0) (getD upper n 0)
+      → Joined (n + 1) bits from upper lower (set (set lines (2 * n) u) (2 * n + 1) v)
+  joined-more {n} {bit} {u} {v} {lines} old l e eu ev =
+      let after : List ℕ = set (set lines (2 * n) u) (2 * n + 1) v in
+      let here = behind-switch after n bit (getD upper n 0) (getD lower n 0) (stored-even lines n u v l ∙ eu) (stored-odd lines n u v l ∙ ev) in
       record {
         above = λ j m. elim (ℕ-discrete j n) [
-          | yes f ↦ let at : exit output 0 n ≡ first = omega arith in
-              rw (f, at) (getD-set-other half-way second first _ 0 (λ q. omega arith) ∙ getD-set-same lines first _ 0 (omega arith))
-          | no f ↦ kept (exit output 0 j) (λ q. f (omega arith)) ∙ old .above j (omega arith)
+          | yes f ↦ rw (f, ← e) (here .0)
+          | no f ↦ stored-other lines n u v (exit (λ i. getD bits (from + i) 0) 0 j) (λ q. f (omega arith)) ∙ old .above j (omega arith)
         ];
         beneath = λ j m. elim (ℕ-discrete j n) [
-          | yes f ↦ let at : exit output 1 n ≡ second = omega arith in
-              rw (f, at) (getD-set-same half-way second _ 0 (simp length-set (omega arith)))
-          | no f ↦ kept (exit output 1 j) (λ q. f (omega arith)) ∙ old .beneath j (omega arith)
+          | yes f ↦ rw (f, ← e) (here .1)
+          | no f ↦ stored-other lines n u v (exit (λ i. getD bits (from + i) 0) 1 j) (λ q. f (omega arith)) ∙ old .beneath j (omega arith)
         ];
       }
+
+  pub joined-last : {n m : ℕ} {lines : List ℕ} → Joined n bits from upper lower lines → 2 * n + 1 < length lines → length bits ≤ from + n → m ≡ n + 1
+      → Joined m bits from upper lower (set (set lines (2 * n) (getD upper n 0)) (2 * n + 1) (getD lower n 0))
+  joined-last {n} {m} old l none all =
+      rw all (joined-more {bit = 0} old l (sym (List·getD-eq-default bits 0 none)) (ifEq-yes (0 % 2) 0 _ _ _ refl refl) (ifEq-yes (0 % 2) 0 _ _ _ refl refl))
+
+-- the two lines of a network that is one switch
+pub switched : {bit u v : ℕ} {lines : List ℕ} → length lines ≡ 2 → u ≡ ifEq (bit % 2) 0 (getD lines 0 0) (getD lines 1 0)
+    → v ≡ ifEq (bit % 2) 0 (getD lines 1 0) (getD lines 0 0) → Switched bit lines (set (set lines 0 u) 1 v)
+switched {bit} {u} {v} {lines} two eu ev =
+    let after : List ℕ = set (set lines 0 u) 1 v in
+    let here = behind-switch after 0 bit (getD lines 0 0) (getD lines 1 0)
+    (stored-even lines 0 u v (omega arith) ∙ eu) (stored-odd lines 0 u v (omega arith) ∙ ev) in
+    record {
+      moved = λ x l. elim (ℕ-discrete x 0) [
+        | yes f ↦ rw f (ap (λ (z : ℕ). getD after z 0) (sym (zero-add ((0 + bit) % 2))) ∙ here .0)
+        | no f ↦ let odd : x ≡ 1 = omega arith in rw odd (ap (λ (z : ℕ). getD after z 0) (sym (zero-add ((1 + bit) % 2))) ∙ here .1)
+      ];
+    }
 
 -- one line stays where it is
 pub routed-one : (d : ℕ) (bits lines : List ℕ) → length lines ≡ 1 → length lines ≡ 2 ^ d → Routed d bits lines lines
 unfolding leaves
 routed-one zero bits lines one wide = record { long = refl; moved = λ x l. refl }
 routed-one (suc e) bits lines one wide = absurd (omega (arith, two-pow-succ e, pow-pos e))
+
+-- two lines go through the one switch
+two-leaves : (bits : ℕ → ℕ) (x : ℕ) → x < 2 → leaves 1 bits x ≡ (x + bits 0) % 2
+unfolding leaves ifLt
+two-leaves bits zero l = omega arith
+two-leaves bits (suc zero) l = omega arith
+two-leaves bits (suc (suc x)) l = absurd (omega arith)
+
+pub routed-two : (d : ℕ) (bits before after : List ℕ) → length before ≡ 2 → length before ≡ 2 ^ d → length after ≡ length before
+    → Switched (getD bits 0 0) before after → Routed d bits before after
+routed-two zero bits before after two wide same S = absurd (omega arith)
+routed-two (suc zero) bits before after two wide same S = record {
+  long = same;
+  moved = λ x l. rw (two-leaves (λ i. getD bits i 0) x l) (S .moved x l);
+}
+routed-two (suc (suc e)) bits before after two wide same S = absurd (omega (arith, two-pow-succ (suc e), two-pow-succ e, pow-pos e))
 
 -- a network of more than one line and at most 64, taken apart: each inner network has m lines and n bits
 pub record Split (bits lines : List ℕ) (d m n : ℕ) : Type 0 where

@@ -42,6 +42,18 @@ pub record Joined (n : ℕ) (bits : List ℕ) (from : ℕ) (upper lower lines : 
   pub above : (j : ℕ) → j < n → getD lines (exit (λ i. getD bits (from + i) 0) 0 j) 0 ≡ getD upper j 0
   pub beneath : (j : ℕ) → j < n → getD lines (exit (λ i. getD bits (from + i) 0) 1 j) 0 ≡ getD lower j 0
 
+-- room for what m lines of each half give out: the bits from `from` on are those of all output switches but the last
+pub record Givable (bits : List ℕ) (from : ℕ) (upper lower lines : List ℕ) : Type 0 where
+  pub few : length lines ≤ 64
+  pub pairs : length lines ≡ 2 * (length bits - from) + 2
+  pub behind : from ≤ length bits
+  pub above : length upper ≡ 32
+  pub beneath : length lower ≡ 32
+
+-- a switch with this bit carried what stood on its two lines
+pub record Switched (bit : ℕ) (before after : List ℕ) : Type 0 where
+  pub moved : (x : ℕ) → x < 2 → getD after ((x + bit) % 2) 0 ≡ getD before x 0
+
 -- the bits of an inner network, and the position of the first output switch's bit, in a network of so many lines and bits
 abbrev pub innerCount : ℕ → ℕ → ℕ
 innerCount width count = (count - (width - 1)) / 2

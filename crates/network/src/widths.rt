@@ -48,6 +48,13 @@ pub fn value_at(values: &[u8], i: usize) -> usize
     }
 }
 
+// A byte as a number.
+pub fn wide(x: u8) -> usize
+    ensures { λ r. ⌜ r ≡ x ⌝ }
+{
+    x as usize
+}
+
 // The other line of the same switch. Only this crate calls it.
 pub fn partner_of(line: usize) -> usize
     requires { ⌜ line < 256 ⌝ }

@@ -1,18 +1,19 @@
 -- `routing::route` meets its contract. Its measure is the width, and each call halves it: `parts` takes the network apart, and
 -- `routed-more` puts what the two inner networks route together.
 use Prim.Native.Nat.{ℕ, _<_}
-use mathlib.Core.Path.{sym, _∙_}
+use mathlib.Core.Path.{refl, sym, _∙_}
 use native.Mathlib.Omega.{arith}
 use borrow.Author.Needs.{needs}
 use borrow.Fn.Kinds.{In}
 use borrow.Fn.PlainCycle.{Measures, is, falls, and}
 use lib.ListN.{length}
-use Rattle.network.proofs.Routes.{RouteSplit, split, upper-sized, lower-sized, back-long, routed-one, routed-more}
+use Rattle.network.proofs.Routes.{RouteSplit, split, upper-sized, lower-sized, back-long, routed-one, routed-two, routed-more}
 use Rattle.network.proofs.routing.route.Reads as route
 use Rattle.network.proofs.routing.route.Kinds as route-kinds
 use Rattle.network.proofs.routing.+route.Lts-route as route-lts
-use Rattle.network.proofs.routing.given.Reads as given-reads
-use Rattle.network.proofs.routing.taken.Reads as taken-reads
+use Rattle.network.proofs.routing.give_out.Reads as give-out-reads
+use Rattle.network.proofs.routing.pass_switch.Reads as pass-switch-reads
+use Rattle.network.proofs.routing.take_in.Reads as take-in-reads
 use Rattle.network.proofs.routing.+route.{statement}
 use Rattle.network.proofs.routing.+route.Tie.{close}
 
@@ -26,7 +27,16 @@ abbrev route-below : ℕ → In 2 route-kinds.ps
 route-below t = and 2 route-kinds.ps (falls 2 route-kinds.ps _<_ μ-route t) route.Pre
 
 abbrev claims : ℕ → route-lts.Claims
-claims t = (taken-reads.Asked, taken-reads.Learnt, route-below t, route.Post, given-reads.Asked, given-reads.Learnt)
+claims t = (
+  pass-switch-reads.Asked,
+  pass-switch-reads.Learnt,
+  take-in-reads.Asked,
+  take-in-reads.Learnt,
+  route-below t,
+  route.Post,
+  give-out-reads.Asked,
+  give-out-reads.Learnt,
+)
 
 module _ (t : ℕ) where
   -- the network taken apart, past the test for one line
@@ -37,17 +47,22 @@ module _ (t : ℕ) where
   returns : route-lts.Need-returns (claims t) (route-at t) route.Post
   returns c = λ d s. routed-one d _ _ (c .if1 .taken) (s .0)
 
+  pass-switch-requires : route-lts.Need-pass-switch-requires (claims t) (route-at t) route.Post
+  pass-switch-requires c κs = (c .before .if2 .taken, omega (arith, parts (c .before .before)))
+
+  same-length : route-lts.Need-same-length (claims t) (route-at t) route.Post
+  same-length c = search needs
+
+  returns-2 : route-lts.Need-returns-2 (claims t) (route-at t) route.Post
+  returns-2 c =
+      let pass = c .before .before .pass-switch in
+      λ d s. routed-two d _ _ _ (c .before .before .before .before .if2 .taken) (s .0) (pass .kept .1 .0) (pass .ensures)
+
   sub-inner : route-lts.Need-sub-inner (claims t) (route-at t) route.Post
-  sub-inner c = omega (arith, parts c)
+  sub-inner c = omega (arith, parts (c .before))
 
   sub-inner-2 : route-lts.Need-sub-inner-2 (claims t) (route-at t) route.Post
-  sub-inner-2 c = omega (arith, parts c)
-
-  taken-requires : route-lts.Need-taken-requires (claims t) (route-at t) route.Post
-  taken-requires c κs = search needs
-
-  taken-requires-2 : route-lts.Need-taken-requires-2 (claims t) (route-at t) route.Post
-  taken-requires-2 c κs = search needs
+  sub-inner-2 c = omega (arith, parts (c .before))
 
   add-middle : route-lts.Need-add-middle (claims t) (route-at t) route.Post
   add-middle c = search needs
@@ -58,6 +73,9 @@ module _ (t : ℕ) where
   add-outputs-2 : route-lts.Need-add-outputs-2 (claims t) (route-at t) route.Post
   add-outputs-2 c = search needs
 
+  take-in-requires : route-lts.Need-take-in-requires (claims t) (route-at t) route.Post
+  take-in-requires c κs = (c .before .before .before .before .before .before .before .pre .1 .1, omega (arith, parts (c .before .before .before .before)), refl, refl)
+
   sub-route : route-lts.Need-sub-route (claims t) (route-at t) route.Post
   sub-route c = search needs
 
@@ -65,21 +83,21 @@ module _ (t : ℕ) where
   part-route-start c = search needs
 
   part-route-end : route-lts.Need-part-route-end (claims t) (route-at t) route.Post
-  part-route-end c = omega (arith, parts (c .before .before .before .before))
+  part-route-end c = omega (arith, parts (c .before .before .before .before .before))
 
   array-borrow-prefix-upper : route-lts.Need-array-borrow-prefix-upper (claims t) (route-at t) route.Post
   array-borrow-prefix-upper c = search needs
 
   slice-aggregate-route : route-lts.Need-slice-aggregate-route (claims t) (route-at t) route.Post
   slice-aggregate-route c =
-      let p = parts (c .before .before .before .before .before .before) in
-      p .sized .0 ∙ sym (upper-sized p (c .before .before .before .before .taken .ensures) .0)
+      let p = parts (c .before .before .before .before .before .before .before) in
+      p .sized .0 ∙ sym (upper-sized p (c .before .before .take-in .ensures .0) .0)
 
   route-requires : route-lts.Need-route-requires (claims t) (route-at t) route.Post
   route-requires c κs =
-      let wider = c .before .before .before .before .before .before in
+      let wider = c .before .before .before .before .before .before .before in
       let p = parts wider in
-      let z = upper-sized p (c .before .before .before .before .taken .ensures) in
+      let z = upper-sized p (c .before .before .take-in .ensures .0) in
       (omega (arith, z .0, wider .before .before .before .pre .0), ((p .e, z), omega (arith, z .0)))
 
   sub-route-2 : route-lts.Need-sub-route-2 (claims t) (route-at t) route.Post
@@ -89,63 +107,65 @@ module _ (t : ℕ) where
   part-route-start-2 c = search needs
 
   part-route-end-2 : route-lts.Need-part-route-end-2 (claims t) (route-at t) route.Post
-  part-route-end-2 c = omega (arith, parts (c .before .before .before .before .before .before .before .before))
+  part-route-end-2 c = omega (arith, parts (c .before .before .before .before .before .before .before .before .before))
 
   array-borrow-prefix-lower : route-lts.Need-array-borrow-prefix-lower (claims t) (route-at t) route.Post
   array-borrow-prefix-lower c = search needs
 
   slice-aggregate-route-2 : route-lts.Need-slice-aggregate-route-2 (claims t) (route-at t) route.Post
   slice-aggregate-route-2 c =
-      let p = parts (c .before .before .before .before .before .before .before .before .before .before) in
-      p .sized .0 ∙ sym (lower-sized p (c .before .before .before .before .before .before .taken2 .ensures) .0)
+      let p = parts (c .before .before .before .before .before .before .before .before .before .before .before) in
+      p .sized .0 ∙ sym (lower-sized p (c .before .before .before .before .before .before .take-in .ensures .1) .0)
 
   route-requires-2 : route-lts.Need-route-requires-2 (claims t) (route-at t) route.Post
   route-requires-2 c κs =
-      let wider = c .before .before .before .before .before .before .before .before .before .before in
+      let wider = c .before .before .before .before .before .before .before .before .before .before .before in
       let p = parts wider in
-      let z = lower-sized p (c .before .before .before .before .before .before .taken2 .ensures) in
+      let z = lower-sized p (c .before .before .before .before .before .before .take-in .ensures .1) in
       (omega (arith, z .0, wider .before .before .before .pre .0), ((p .e, z), omega (arith, z .0)))
 
-  given-requires : route-lts.Need-given-requires (claims t) (route-at t) route.Post
-  given-requires c κs =
+  give-out-requires : route-lts.Need-give-out-requires (claims t) (route-at t) route.Post
+  give-out-requires c κs =
       let second = c .before .before .before .before in
       let first = second .before .before .before .before in
-      let lower = first .before .before .before in
-      let upper = lower .before .before in
-      let wider = upper .before .before in
-      let p = parts wider in (
-        wider .before .before .before .pre .1 .1,
-        omega arith,
-        omega arith,
-        back-long p (first .route .last .1 .0) (upper .taken .ensures) (first .route .kept .1 .0),
-        back-long p (second .route2 .last .1 .0) (lower .taken2 .ensures) (second .route2 .kept .1 .0),
-      )
+      let take = first .before .before .before in
+      let wider = take .before .before .before .before .before in
+      let p = parts wider in
+      record {
+        few = wider .before .before .before .pre .1 .1;
+        pairs = omega (arith, p);
+        behind = omega (arith, p);
+        above = back-long p (first .route .last .1 .0) (take .take-in .ensures .0) (first .route .kept .1 .0);
+        beneath = back-long p (second .route2 .last .1 .0) (take .take-in .ensures .1) (second .route2 .kept .1 .0);
+      }
 
-  same-length : route-lts.Need-same-length (claims t) (route-at t) route.Post
-  same-length c = search needs
+  same-length-2 : route-lts.Need-same-length-2 (claims t) (route-at t) route.Post
+  same-length-2 c = search needs
 
-  returns-2 : route-lts.Need-returns-2 (claims t) (route-at t) route.Post
-  returns-2 c =
+  returns-3 : route-lts.Need-returns-3 (claims t) (route-at t) route.Post
+  returns-3 c =
       let second = c .before .before .before .before .before .before .before in
       let first = second .before .before .before .before in
-      let lower = first .before .before .before in
-      let upper = lower .before .before in
-      let wider = upper .before .before in
-      λ d s. routed-more (split _ _ d s (wider .before .before .before .pre .1 .1) (wider .if1 .left)) (upper .taken .ensures) (lower .taken2 .ensures)
-      (first .route .ensures) (second .route2 .ensures) (c .before .before .given .ensures) (c .before .before .given .kept .1 .1 .1 .1 .0)
+      let take = first .before .before .before .take-in in
+      let wider = first .before .before .before .before .before .before .before .before in
+      let out = c .before .before .give-out in
+      λ d s. routed-more (split _ _ d s (wider .before .before .before .pre .1 .1) (wider .if1 .left)) (take .ensures .0) (take .ensures .1)
+      (first .route .ensures) (second .route2 .ensures) (out .ensures) (out .kept .1 .1 .1 .1 .0)
 
 pub +route-spec : {M : Type 1} → statement M
 +route-spec = close μ-route λ t. route-lts.spec (claims t)
     (route-at t)
     route.Post
     (returns t)
+    (pass-switch-requires t)
+    (same-length t)
+    (returns-2 t)
     (sub-inner t)
     (sub-inner-2 t)
-    (taken-requires t)
-    (taken-requires-2 t)
     (add-middle t)
     (add-outputs t)
     (add-outputs-2 t)
+    (take-in-requires t)
     (sub-route t)
     (part-route-start t)
     (part-route-end t)
@@ -158,6 +178,6 @@ pub +route-spec : {M : Type 1} → statement M
     (array-borrow-prefix-lower t)
     (slice-aggregate-route-2 t)
     (route-requires-2 t)
-    (given-requires t)
-    (same-length t)
-    (returns-2 t)
+    (give-out-requires t)
+    (same-length-2 t)
+    (returns-3 t)
