@@ -1,24 +1,25 @@
 -- One level of setting a network, over the lists that the code holds: the outer switches from the halves, what the inner networks have to
--- perform as it is read off the switches, and the whole from its parts.
+-- perform, and the whole from its parts. A network of two lines is one switch, and its rule is that the line that leaves last goes low.
 use Prim.Native.Nat.{ℕ, zero, suc, _+_, _*_, _-_, _/_, _%_, _^_, _<_, _≤_}
 use mathlib.Core.Path.{_≡_, refl, sym, ap, subst, _∙_}
 use mathlib.Core.List.{List, []}
 use mathlib.Core.Logic.{_⊎_, inl, inr, ⊎-elim}
 use native.Mathlib.Omega.{arith}
-use native.Mathlib.Decide.{decLt}
-use native.Mathlib.Nat.{two-pow-succ}
-use lib.ListN.{length, getD, take, length-take, List·getD-eq-default}
+use native.Mathlib.Decide.{ℕ-discrete}
+use native.Mathlib.Nat.{two-pow-succ, zero-add}
+use lib.ListN.{length, getD, set, take, length-set}
 use lib.Pow.{pow-pos}
-use lib.Seq.{getD-take, length-take-le, ext-getD}
+use lib.Seq.{getD-take, getD-set-same, length-take-le, ext-getD}
 use Rattle.laws.specs.Permutation.{Permutes, inverse}
 use Rattle.laws.specs.Splice.{part, splice}
+use Rattle.laws.specs.Tabulate.{tabulate}
 use Rattle.laws.proofs.Permutations.{inverse-below, inverse-right, inverse-left, inverse-unique, inverse-ext, permutes-ext}
 use Rattle.laws.proofs.Splices.{length-part, length-splice, getD-splice-before, getD-splice-inside, getD-splice-behind}
 use Rattle.network.specs.Network.{bitCount, partner, exit}
 use Rattle.network.specs.Rule.{Halves, lineOf, inner}
 use Rattle.network.specs.Setting.{chosen, setting}
 use Rattle.network.specs.Calls.{Sized}
-use Rattle.network.specs.Steps.{Picked, Inverses, Wirable, Wired, Outer, InnerSet, innerCount, outputsAt}
+use Rattle.network.specs.Steps.{Inverses, Placed, Picked, Wirable, Outer, InnerPair, innerCount, outputsAt}
 use Rattle.network.proofs.Exists.{chosen-halves}
 use Rattle.network.proofs.Levels.{width-even, last-straight, half-lineOf, lineOf-below, lineOf-switch, exit-output, inner-permutes}
 use Rattle.network.proofs.Unique.{setting-ext, setting-level}
@@ -37,43 +38,16 @@ module _ (forward back : List ℕ) (I : Inverses forward back) where
   pub back-below : (y : ℕ) → y < n → getD back y 0 < n
   back-below y l = rw (I .inverts y l) (inverse-below n p (I .permutes) y l)
 
-  pub wirable : (d : ℕ) (bits : List ℕ) → Sized n (length bits) d → 1 < n → n ≤ 64 → Wirable back bits (outputsAt n (length bits))
-  wirable d bits s some few =
-      let S = parted n (length bits) d s (λ e. omega arith) in
-      record {
-        few = omega (arith, I .long);
-        lines = λ y l. omega (arith, back-below y (omega (arith, I .long)));
-        room = omega (arith, I .long, S .count-all);
-        behind = omega (arith, I .long);
-      }
-
   -- the output switch that has no bit stands straight
   straight : (e : ℕ) → n ≡ 2 ^ suc e → chosen n p (inverse n p (2 * (n / 2 - 1))) ≡ 0
   straight e w =
       let m : n / 2 ≡ 2 ^ e = omega (arith, two-pow-succ e) in
       rw (m, w) (last-straight e p (chosen (2 ^ suc e) p) (rw w at (I .permutes)) (chosen-halves (2 ^ suc e) p (rw w at (I .permutes)) (width-even e)))
 
-  pub outer : (d : ℕ) (half before bits : List ℕ) → Sized n (length before) d → 1 < n → length bits ≡ length before
-      → ((x : ℕ) → x < n → getD half x 0 ≡ chosen n p x) → Wired half back (outputsAt n (length before)) bits → Outer forward bits
-  outer d half before bits s some long halves W =
-      let S = parted n (length before) d s (λ e. omega arith) in
-      record {
-        inputs = λ j l. W .inputs j (omega (arith, I .long)) ∙ halves (2 * j) (omega arith);
-        outputs = λ j l. rw long (elim (decLt (j + 1) (n / 2)) [
-          | yes m ↦
-              W .outputs j (omega (arith, I .long)) ∙ ap (λ (z : ℕ). getD half z 0) (I .inverts (2 * j) (omega arith))
-              ∙ halves (inverse n p (2 * j)) (inverse-below n p (I .permutes) (2 * j) (omega arith))
-          | no m ↦
-              let e : j ≡ n / 2 - 1 = omega arith in
-              List·getD-eq-default bits 0 (omega (arith, S .count-all))
-              ∙ sym (rw e (straight (S .e) (s .0 ∙ ap (λ (z : ℕ). 2 ^ z) (S .deep))))
-        ]);
-      }
-
-  -- what an inner network has to perform, read off the switches
-  module _ (d : ℕ) (bits : List ℕ) (s : Sized n (length bits) d) (some : 1 < n) (O : Outer forward bits) (c : ℕ) (lc : c < 2) where
-    pub S : Parted n (length bits) d
-    S = parted n (length bits) d s (λ e. omega arith)
+  -- a network of as many lines as forward lists, with `count` bits
+  module _ (d count : ℕ) (s : Sized n count d) (some : 1 < n) where
+    pub S : Parted n count d
+    S = parted n count d s (λ e. omega arith)
 
     w : n ≡ 2 ^ suc (S .e)
     w = s .0 ∙ ap (λ (z : ℕ). 2 ^ z) (S .deep)
@@ -87,151 +61,225 @@ module _ (forward back : List ℕ) (I : Inverses forward back) where
     H : Halves (2 ^ suc (S .e)) p h
     H = rw w (chosen-halves (2 ^ suc (S .e)) p Q (width-even (S .e)))
 
-    inner-is : Permutes (n / 2) (inner p h c)
-    inner-is = rw (S .half-width) (inner-permutes (S .e) p h Q H c lc)
+    -- the outer switches, from halves by the rule
+    module _ (half : List ℕ) (halves : (x : ℕ) → x < n → getD half x 0 ≡ h x) where
+      -- the half from which an output switch takes its even line
+      pub arrives : (j : ℕ) → 2 * j < n → getD half (getD back (2 * j) 0) 0 ≡ h (inverse n p (2 * j))
+      arrives j l = ap (λ (z : ℕ). getD half z 0) (I .inverts (2 * j) l) ∙ halves (inverse n p (2 * j)) (inverse-below n p (I .permutes) (2 * j) l)
 
-    pub inner-forward : (r : List ℕ) → Picked bits 0 forward c r → (j : ℕ) → j < n / 2 → getD (take (n / 2) r) j 0 ≡ inner p (chosen n p) c j
-    inner-forward r R j l =
-        getD-take (n / 2) r j 0 l ∙ R .each j l
-        ∙ ap (λ (z : ℕ). getD forward (2 * j + (c + z) % 2) 0 / 2) (ap (λ (k : ℕ). getD bits k 0) (omega arith) ∙ O .inputs j l)
+      pub wirable : {bits upper lower : List ℕ} → length bits ≡ count → n ≤ 64 → length upper ≡ 32 → length lower ≡ 32
+          → Wirable half back bits (count - (n / 2 - 1)) upper lower
+      wirable {bits} long few above beneath =
+          let last : length bits - (count - (n / 2 - 1)) ≡ n / 2 - 1 = omega (arith, S .count-all) in
+          record {
+            few = omega (arith, I .long);
+            lines = λ y l. omega (arith, back-below y (omega (arith, I .long)));
+            behind = omega arith;
+            room = omega (arith, I .long, S .some);
+            straight = rw last (arrives (n / 2 - 1) (omega (arith, S .some)) ∙ straight (S .e) w);
+            above = above;
+            beneath = beneath;
+          }
 
-    -- the line that leaves at output switch j from the half, and its inner line
-    leaver : ℕ → ℕ
-    leaver j = inverse n p (2 * j + (c + h (inverse n p (2 * j))) % 2) / 2
-
-    leaver-inner : (i : ℕ) → i < n / 2 → leaver (inner p h c i) ≡ i
-    unfolding leaver
-    leaver-inner i l =
-        let x : ℕ = lineOf h c i in
-        let m : i < 2 ^ S .e = rw (← S .half-width) l in
-        let b : x < 2 ^ suc (S .e) = lineOf-below (S .e) h c i m in
-        let out : exit (λ j. h (inverse (2 ^ suc (S .e)) p (2 * j))) (h x) (p x / 2) ≡ p x = exit-output (S .e) p h Q H (λ j. h (inverse (2 ^ suc (S .e)) p (2 * j))) (λ j k. refl) x b in
-        let out′ : 2 * (p x / 2) + (c + h (inverse n p (2 * (p x / 2)))) % 2 ≡ p x = rw (half-lineOf (S .e) p h Q H c i lc m, ← w) at out in
-        ap (λ (z : ℕ). inverse n p z / 2) out′ ∙ ap (λ (z : ℕ). z / 2) (inverse-left n p (I .permutes) x (subst (λ (z : ℕ). x < z) (sym w) b)) ∙ lineOf-switch h c i
-
-    pub inner-back : (r : List ℕ) → Picked bits (outputsAt n (length bits)) back c r → (j : ℕ) → j < n / 2
-        → getD (take (n / 2) r) j 0 ≡ inverse (n / 2) (inner p (chosen n p) c) j
-    unfolding leaver
-    inner-back r R j l =
-        getD-take (n / 2) r j 0 l ∙ R .each j (omega (arith, I .long))
-        ∙ ap (λ (z : ℕ). getD back (2 * j + (c + z) % 2) 0 / 2) (O .outputs j l)
-        ∙ ap (λ (z : ℕ). z / 2) (I .inverts (2 * j + (c + h (inverse n p (2 * j))) % 2) (omega arith))
-        ∙ inverse-unique (n / 2) (inner p h c) inner-is leaver leaver-inner j l
-
-    module _ (rf rb : List ℕ) (F : Picked bits 0 forward c rf) (B : Picked bits (outputsAt n (length bits)) back c rb) (few : n ≤ 64) where
-      pub length-inner : (r : List ℕ) → length r ≡ 32 → length (take (n / 2) r) ≡ n / 2
-      length-inner r e = length-take-le (n / 2) r (omega arith)
-
-      pub inner-inverses : Inverses (take (n / 2) rf) (take (n / 2) rb)
-      inner-inverses = record {
-        long = length-inner rb (B .long) ∙ sym (length-inner rf (F .long));
-        permutes = rw (length-inner rf (F .long)) (permutes-ext (n / 2) (inner p h c) (λ i. getD (take (n / 2) rf) i 0) (λ i l. sym (inner-forward rf F i l)) inner-is);
-        inverts = λ y l.
-            let m : y < n / 2 = rw (length-inner rf (F .long)) at l in
-            rw (length-inner rf (F .long)) (inner-back rb B y m ∙ inverse-ext (n / 2) (inner p h c) (λ i. getD (take (n / 2) rf) i 0) y (λ i k. sym (inner-forward rf F i k)));
+      pub outer : {k : ℕ} {before bits after : List ℕ} → length before ≡ count → Placed (λ j. getD half (2 * j) 0) 0 (n / 2) before bits
+          → Placed (λ j. getD half (getD back (2 * j) 0) 0) (count - (n / 2 - 1)) k bits after → k ≡ n / 2 - 1 → Outer forward after
+      outer {k} {before} {bits} {after} long inputs outputs ek = record {
+        inputs = λ j l.
+            outputs .kept j (omega (arith, S .count-all)) ∙ ap (λ (z : ℕ). getD bits z 0) (sym (zero-add j)) ∙ inputs .placed j l
+            ∙ halves (2 * j) (omega arith);
+        outputs = λ j l.
+            let at : outputsAt n (length after) + j ≡ count - (n / 2 - 1) + j = omega (arith, outputs .long, inputs .long, S .count-all) in
+            rw at (outputs .placed j (omega arith) ∙ arrives j (omega arith));
       }
 
-      -- what the inner call is lent has the sizes of a network
-      pub inner-sized : (a k : ℕ) → a ≡ n / 2 + c * innerCount n (length bits) → k ≡ innerCount n (length bits)
-          → Sized (length (take (n / 2) rf)) (length (part a k bits)) (S .e)
-      inner-sized a k ea ek = (
-        length-inner rf (F .long) ∙ S .half-width,
-        length-part a k bits (omega (arith, S .count-all, S .some, half-times c (innerCount n (length bits)) lc)) ∙ ek ∙ S .inner,
-      )
+    -- what the half c has to perform
+    module _ (c : ℕ) (lc : c < 2) where
+      inner-is : Permutes (n / 2) (inner p h c)
+      inner-is = rw (S .half-width) (inner-permutes (S .e) p h Q H c lc)
 
-      -- and what comes back is its setting
-      pub inner-set : (ys : List ℕ) (a k : ℕ) → a ≡ n / 2 + c * innerCount n (length bits) → k ≡ innerCount n (length bits)
-          → ((e : ℕ) → Sized (length (take (n / 2) rf)) (length (part a k bits)) e → ys ≡ setting e (λ i. getD (take (n / 2) rf) i 0))
-          → InnerSet d forward c bits (splice a k ys bits)
-      inner-set ys a k ea ek set e deep =
-          let same : S .e ≡ e = omega (arith, S .deep) in
-          let ys-is : ys ≡ setting (S .e) (inner p h c) =
-          set (S .e) (inner-sized a k ea ek)
-          ∙ sym (setting-ext (S .e) (inner p h c) (λ i. getD (take (n / 2) rf) i 0) (inner-permutes (S .e) p h Q H c lc)
-          (λ i l. sym (inner-forward rf F i (rw (S .half-width) l)))) in
-          let at : a ≡ 2 ^ S .e + c * bitCount (S .e) = rw (S .half-width, S .inner) at ea in
-          rw (← same) (cc (at, ek ∙ S .inner, ys-is))
+      -- the line that leaves at output switch j from the half, and its inner line
+      leaver : ℕ → ℕ
+      leaver j = inverse n p (2 * j + (c + h (inverse n p (2 * j))) % 2) / 2
 
-  -- the outer switches stay as they are when an inner network is set
-  module _ (d : ℕ) (bits : List ℕ) (s : Sized n (length bits) d) (some : 1 < n) where
-    pub T : Parted n (length bits) d
-    T = parted n (length bits) d s (λ e. omega arith)
+      leaver-inner : (i : ℕ) → i < n / 2 → leaver (inner p h c i) ≡ i
+      unfolding leaver
+      leaver-inner i l =
+          let x : ℕ = lineOf h c i in
+          let m : i < 2 ^ S .e = rw (← S .half-width) l in
+          let b : x < 2 ^ suc (S .e) = lineOf-below (S .e) h c i m in
+          let out : exit (λ j. h (inverse (2 ^ suc (S .e)) p (2 * j))) (h x) (p x / 2) ≡ p x = exit-output (S .e) p h Q H (λ j. h (inverse (2 ^ suc (S .e)) p (2 * j))) (λ j k. refl) x b in
+          let out′ : 2 * (p x / 2) + (c + h (inverse n p (2 * (p x / 2)))) % 2 ≡ p x = rw (half-lineOf (S .e) p h Q H c i lc m, ← w) at out in
+          ap (λ (z : ℕ). inverse n p z / 2) out′ ∙ ap (λ (z : ℕ). z / 2) (inverse-left n p (I .permutes) x (subst (λ (z : ℕ). x < z) (sym w) b)) ∙ lineOf-switch h c i
 
-    spliced : (c : ℕ) (after : List ℕ) → InnerSet d forward c bits after
-        → after ≡ splice (2 ^ T .e + c * bitCount (T .e)) (bitCount (T .e)) (setting (T .e) (inner p (chosen n p) c)) bits
-    spliced c after N = N (T .e) (T .deep)
+      pub inner-pair : (half : List ℕ) {rf rb : List ℕ} {m : ℕ} → ((x : ℕ) → x < n → getD half x 0 ≡ h x) → Picked (λ j. getD half (2 * j) 0) (n / 2) forward c rf
+          → Picked (λ j. getD half (getD back (2 * j) 0) 0) m back c rb → m ≡ n / 2 → InnerPair forward c rf rb
+      unfolding leaver
+      inner-pair half halves F B em = record {
+        long = F .long;
+        long-back = B .long;
+        performs = λ j l. F .each j l ∙ ap (λ (z : ℕ). getD forward (2 * j + (c + z) % 2) 0 / 2) (halves (2 * j) (omega arith));
+        inverts = λ j l.
+            B .each j (omega arith) ∙ ap (λ (z : ℕ). getD back (2 * j + (c + z) % 2) 0 / 2) (arrives half halves j (omega arith))
+            ∙ ap (λ (z : ℕ). z / 2) (I .inverts (2 * j + (c + h (inverse n p (2 * j))) % 2) (omega arith))
+            ∙ inverse-unique (n / 2) (inner p h c) inner-is leaver leaver-inner j l;
+      }
 
-    fits : (c : ℕ) → c < 2 → 2 ^ T .e + c * bitCount (T .e) + bitCount (T .e) ≤ length bits
-    fits c l = omega (arith, T .count-all, T .half-width, T .inner, T .some, half-times c (bitCount (T .e)) l)
+      -- the call that sets its inner network
+      module _ {rf rb : List ℕ} (R : InnerPair forward c rf rb) (few : n ≤ 64) where
+        pub length-inner : (r : List ℕ) → length r ≡ 32 → length (take (n / 2) r) ≡ n / 2
+        length-inner r e = length-take-le (n / 2) r (omega arith)
 
-    pub inner-length : (c : ℕ) (after : List ℕ) → c < 2 → InnerSet d forward c bits after → length after ≡ length bits
-    inner-length c after l N =
-        rw (spliced c after N)
-        (length-splice (2 ^ T .e + c * bitCount (T .e)) (bitCount (T .e)) (setting (T .e) (inner p (chosen n p) c)) bits (fits c l) (length-setting (T .e) (inner p (chosen n p) c)))
+        inner-forward : (j : ℕ) → j < n / 2 → getD (take (n / 2) rf) j 0 ≡ inner p h c j
+        inner-forward j l = getD-take (n / 2) rf j 0 l ∙ R .performs j l
 
-    -- a bit outside the inner network of half c
-    inner-outside : (c : ℕ) (after : List ℕ) → c < 2 → InnerSet d forward c bits after → (i : ℕ)
-        → (i < 2 ^ T .e + c * bitCount (T .e)) ⊎ (2 ^ T .e + c * bitCount (T .e) + bitCount (T .e) ≤ i) → getD after i 0 ≡ getD bits i 0
-    inner-outside c after l N i side =
-        rw (spliced c after N) (⊎-elim
-        (getD-splice-before (2 ^ T .e + c * bitCount (T .e)) (bitCount (T .e)) (setting (T .e) (inner p (chosen n p) c)) bits (fits c l) (length-setting (T .e) (inner p (chosen n p) c)) i 0)
-        (getD-splice-behind (2 ^ T .e + c * bitCount (T .e)) (bitCount (T .e)) (setting (T .e) (inner p (chosen n p) c)) bits (fits c l) (length-setting (T .e) (inner p (chosen n p) c)) i 0) side)
-
-    -- a bit of it
-    inner-inside : (c : ℕ) (after : List ℕ) → c < 2 → InnerSet d forward c bits after → (i : ℕ) → i < bitCount (T .e)
-        → getD after (2 ^ T .e + c * bitCount (T .e) + i) 0 ≡ getD (setting (T .e) (inner p (chosen n p) c)) i 0
-    inner-inside c after l N i m =
-        rw (spliced c after N)
-        (getD-splice-inside (2 ^ T .e + c * bitCount (T .e)) (bitCount (T .e)) (setting (T .e) (inner p (chosen n p) c)) bits (fits c l) (length-setting (T .e) (inner p (chosen n p) c)) i 0 m)
-
-    pub inner-outer : (c : ℕ) (after : List ℕ) → c < 2 → InnerSet d forward c bits after → Outer forward bits → Outer forward after
-    inner-outer c after l N O =
-        let k = half-times c (bitCount (T .e)) l in
-        record {
-          inputs = λ j m. inner-outside c after l N j (inl (omega (arith, T .half-width))) ∙ O .inputs j m;
-          outputs = λ j m. rw (inner-length c after l N) (inner-outside c after l N (outputsAt n (length bits) + j) (inr (omega (arith, T .half-width, T .inner))) ∙ O .outputs j m);
+        pub inner-inverses : Inverses (take (n / 2) rf) (take (n / 2) rb)
+        inner-inverses = record {
+          long = length-inner rb (R .long-back) ∙ sym (length-inner rf (R .long));
+          permutes = rw (length-inner rf (R .long)) (permutes-ext (n / 2) (inner p h c) (λ i. getD (take (n / 2) rf) i 0) (λ i l. sym (inner-forward i l)) inner-is);
+          inverts = λ y l.
+              let m : y < n / 2 = rw (length-inner rf (R .long)) at l in
+              rw (length-inner rf (R .long)) (getD-take (n / 2) rb y 0 m ∙ R .inverts y m
+              ∙ inverse-ext (n / 2) (inner p h c) (λ i. getD (take (n / 2) rf) i 0) y (λ i k. sym (inner-forward i k)));
         }
 
-  -- the whole, from its parts
-  pub level-setting : (d : ℕ) (bits after last : List ℕ) → Sized n (length bits) d → 1 < n → Outer forward bits → InnerSet d forward 0 bits after
-      → InnerSet d forward 1 after last → last ≡ setting d p
-  unfolding bitCount T
-  level-setting d bits after last s some O N M =
-      let R : Parted n (length bits) d = parted n (length bits) d s (λ e. omega arith) in
-      let e : ℕ = R .e in
-      let w : n ≡ 2 ^ suc e = s .0 ∙ ap (λ (z : ℕ). 2 ^ z) (R .deep) in
-      let Q : Permutes (2 ^ suc e) p = subst (λ (z : ℕ). Permutes z p) w (I .permutes) in
-      let G : Halves (2 ^ suc e) p (chosen n p) = subst (λ (z : ℕ). Halves (2 ^ suc e) p (chosen z p)) (sym w) (chosen-halves (2 ^ suc e) p Q (width-even e)) in
-      let long : length after ≡ length bits = inner-length d bits s some 0 after (omega arith) N in
-      let s′ : Sized n (length after) d = (s .0, long ∙ s .1) in
-      let long′ : length last ≡ length after = inner-length d after s′ some 1 last (omega arith) M in
-      let same : T d after s′ some .e ≡ e = omega (arith, T d after s′ some .deep, R .deep) in
-      let k : ℕ = bitCount e in
-      -- outside the lower network a bit of the last list is that of the one before, and inside it is the lower setting's
-      let outside : (i : ℕ) → (i < 2 ^ e + k) ⊎ (2 ^ e + k + k ≤ i) → getD last i 0 ≡ getD after i 0 =
-      λ i side. inner-outside d after s′ some 1 last (omega arith) M i (rw same (⊎-elim (λ a. inl (omega arith)) (λ a. inr (omega arith)) side)) in
-      let beneath : (i : ℕ) → i < k → getD last (2 ^ e + (k + i)) 0 ≡ getD (setting e (inner p (chosen n p) 1)) i 0 =
-      λ i l.
-      let at : 2 ^ e + 1 * k + i ≡ 2 ^ e + (k + i) = omega arith in
-      rw (same, at) at (inner-inside d after s′ some 1 last (omega arith) M i (rw same l)) in
-      let above : (i : ℕ) → i < k → getD last (2 ^ e + i) 0 ≡ getD (setting e (inner p (chosen n p) 0)) i 0 =
-      λ i l.
-      let at : 2 ^ e + 0 * k + i ≡ 2 ^ e + i = omega arith in
-      outside (2 ^ e + i) (inl (omega arith)) ∙ rw at at (inner-inside d bits s some 0 after (omega arith) N i l) in
-      let ends : (i : ℕ) → (i < 2 ^ e) ⊎ (2 ^ e + k + k ≤ i) → getD last i 0 ≡ getD bits i 0 =
-      λ i side.
-      outside i (⊎-elim (λ a. inl (omega arith)) inr side)
-      ∙ inner-outside d bits s some 0 after (omega arith) N i (⊎-elim (λ a. inl (omega arith)) (λ a. inr (omega arith)) side) in
-      let half : n / 2 ≡ 2 ^ e = R .half-width in
-      let outs : (j : ℕ) → j < 2 ^ e - 1 → getD last (2 ^ e + (k + (k + j))) 0 ≡ chosen n p (inverse (2 ^ suc e) p (2 * j)) =
-      λ j l.
-      let at : outputsAt n (length bits) + j ≡ 2 ^ e + (k + (k + j)) = omega (arith, half, R .inner) in
-      ends (2 ^ e + (k + (k + j))) (inr (omega arith)) ∙ rw at at (O .outputs j (omega arith)) ∙ ap (λ (z : ℕ). chosen n p (inverse z p (2 * j))) w in
-      arranged-unique e p (chosen n p) (setting e (inner p (chosen n p) 0)) (setting e (inner p (chosen n p) 1))
-      (length-setting e (inner p (chosen n p) 0)) (length-setting e (inner p (chosen n p) 1)) last
-      (long′ ∙ long ∙ s .1 ∙ ap bitCount (R .deep))
-      (λ j l. ends j (inl l) ∙ O .inputs j (omega arith)) above beneath outs
-      ∙ sym (setting-level e p (chosen n p) Q G) ∙ ap (λ (z : ℕ). setting z p) (sym (R .deep))
+        -- what the call is lent has the sizes of a network
+        pub inner-sized : (bits : List ℕ) (a k : ℕ) → length bits ≡ count → a ≡ n / 2 + c * innerCount n count → k ≡ innerCount n count
+            → Sized (length (take (n / 2) rf)) (length (part a k bits)) (S .e)
+        inner-sized bits a k long ea ek = (
+          length-inner rf (R .long) ∙ S .half-width,
+          length-part a k bits (omega (arith, S .count-all, S .some, half-times c (innerCount n count) lc)) ∙ ek ∙ S .inner,
+        )
+
+        -- and what comes back is its setting
+        pub inner-set : (bits ys : List ℕ) (a k : ℕ) → length bits ≡ count → a ≡ n / 2 + c * innerCount n count → k ≡ innerCount n count
+            → ((e : ℕ) → Sized (length (take (n / 2) rf)) (length (part a k bits)) e → ys ≡ setting e (λ i. getD (take (n / 2) rf) i 0))
+            → splice a k ys bits ≡ splice (2 ^ S .e + c * bitCount (S .e)) (bitCount (S .e)) (setting (S .e) (inner p h c)) bits
+        inner-set bits ys a k long ea ek set =
+            let ys-is : ys ≡ setting (S .e) (inner p h c) =
+            set (S .e) (inner-sized bits a k long ea ek)
+            ∙ sym (setting-ext (S .e) (inner p h c) (λ i. getD (take (n / 2) rf) i 0) (inner-permutes (S .e) p h Q H c lc)
+            (λ i l. sym (inner-forward i (rw (S .half-width) l)))) in
+            let at : a ≡ 2 ^ S .e + c * bitCount (S .e) = rw (S .half-width, S .inner) at ea in
+            cc (at, ek ∙ S .inner, ys-is)
+
+      -- the bits of the inner network are its setting, and the others are as they were
+      abbrev pub InnerSet : List ℕ → List ℕ → Type 0
+      InnerSet before after = after ≡ splice (2 ^ S .e + c * bitCount (S .e)) (bitCount (S .e)) (setting (S .e) (inner p h c)) before
+
+      module _ (bits after : List ℕ) (long : length bits ≡ count) (N : InnerSet bits after) where
+        fits : 2 ^ S .e + c * bitCount (S .e) + bitCount (S .e) ≤ length bits
+        fits = omega (arith, S .count-all, S .half-width, S .inner, S .some, half-times c (bitCount (S .e)) lc)
+
+        inner-length : length after ≡ length bits
+        inner-length =
+            rw N (length-splice (2 ^ S .e + c * bitCount (S .e)) (bitCount (S .e)) (setting (S .e) (inner p h c)) bits fits (length-setting (S .e) (inner p h c)))
+
+        -- a bit outside the inner network
+        inner-outside : (i : ℕ) → (i < 2 ^ S .e + c * bitCount (S .e)) ⊎ (2 ^ S .e + c * bitCount (S .e) + bitCount (S .e) ≤ i) → getD after i 0 ≡ getD bits i 0
+        inner-outside i side =
+            rw N (⊎-elim
+            (getD-splice-before (2 ^ S .e + c * bitCount (S .e)) (bitCount (S .e)) (setting (S .e) (inner p h c)) bits fits (length-setting (S .e) (inner p h c)) i 0)
+            (getD-splice-behind (2 ^ S .e + c * bitCount (S .e)) (bitCount (S .e)) (setting (S .e) (inner p h c)) bits fits (length-setting (S .e) (inner p h c)) i 0) side)
+
+        -- a bit of it
+        inner-inside : (i : ℕ) → i < bitCount (S .e) → getD after (2 ^ S .e + c * bitCount (S .e) + i) 0 ≡ getD (setting (S .e) (inner p h c)) i 0
+        inner-inside i m =
+            rw N (getD-splice-inside (2 ^ S .e + c * bitCount (S .e)) (bitCount (S .e)) (setting (S .e) (inner p h c)) bits fits (length-setting (S .e) (inner p h c)) i 0 m)
+
+    -- the whole, from its parts
+    pub level-setting : (bits after last : List ℕ) → length bits ≡ count → Outer forward bits → InnerSet 0 (omega arith) bits after
+        → InnerSet 1 (omega arith) after last → last ≡ setting d p
+    unfolding bitCount
+    level-setting bits after last long O N M =
+        let e : ℕ = S .e in
+        let k : ℕ = bitCount e in
+        let long′ : length after ≡ count = inner-length 0 (omega arith) bits after long N ∙ long in
+        -- outside the lower network a bit of the last list is that of the one before, and inside it is the lower setting's
+        let outside : (i : ℕ) → (i < 2 ^ e + k) ⊎ (2 ^ e + k + k ≤ i) → getD last i 0 ≡ getD after i 0 =
+        λ i side. inner-outside 1 (omega arith) after last long′ M i (⊎-elim (λ a. inl (omega arith)) (λ a. inr (omega arith)) side) in
+        let beneath : (i : ℕ) → i < k → getD last (2 ^ e + (k + i)) 0 ≡ getD (setting e (inner p h 1)) i 0 =
+        λ i l.
+        let at : 2 ^ e + 1 * k + i ≡ 2 ^ e + (k + i) = omega arith in
+        rw at at (inner-inside 1 (omega arith) after last long′ M i l) in
+        let above : (i : ℕ) → i < k → getD last (2 ^ e + i) 0 ≡ getD (setting e (inner p h 0)) i 0 =
+        λ i l.
+        let at : 2 ^ e + 0 * k + i ≡ 2 ^ e + i = omega arith in
+        outside (2 ^ e + i) (inl (omega arith)) ∙ rw at at (inner-inside 0 (omega arith) bits after long N i l) in
+        let ends : (i : ℕ) → (i < 2 ^ e) ⊎ (2 ^ e + k + k ≤ i) → getD last i 0 ≡ getD bits i 0 =
+        λ i side.
+        outside i (⊎-elim (λ a. inl (omega arith)) inr side)
+        ∙ inner-outside 0 (omega arith) bits after long N i (⊎-elim (λ a. inl (omega arith)) (λ a. inr (omega arith)) side) in
+        let wide : n / 2 ≡ 2 ^ e = S .half-width in
+        let outs : (j : ℕ) → j < 2 ^ e - 1 → getD last (2 ^ e + (k + (k + j))) 0 ≡ h (inverse (2 ^ suc e) p (2 * j)) =
+        λ j l.
+        let at : outputsAt n (length bits) + j ≡ 2 ^ e + (k + (k + j)) = omega (arith, S .inner) in
+        ends (2 ^ e + (k + (k + j))) (inr (omega arith)) ∙ rw at at (O .outputs j (omega arith)) ∙ ap (λ (z : ℕ). h (inverse z p (2 * j))) w in
+        arranged-unique e p h (setting e (inner p h 0)) (setting e (inner p h 1))
+        (length-setting e (inner p h 0)) (length-setting e (inner p h 1)) last
+        (inner-length 1 (omega arith) after last long′ M ∙ long′ ∙ s .1 ∙ ap bitCount (S .deep))
+        (λ j l. ends j (inl l) ∙ O .inputs j (omega arith)) above beneath outs
+        ∙ sym (setting-level e p h Q H) ∙ ap (λ (z : ℕ). setting z p) (sym (S .deep))
+
+    -- the two calls, as the code makes them: what they are lent, and what they leave
+    abbrev k : ℕ
+    k = innerCount n count
+
+    abbrev Sets : List ℕ → ℕ → ℕ → List ℕ → List ℕ → Type 0
+    Sets rf a b bits ys = (e : ℕ) → Sized (length (take (n / 2) rf)) (length (part a b bits)) e → ys ≡ setting e (λ i. getD (take (n / 2) rf) i 0)
+
+    module _ {rf rb rf′ rb′ : List ℕ} (R : InnerPair forward 0 rf rb) (R′ : InnerPair forward 1 rf′ rb′) (few : n ≤ 64) (bits : List ℕ) (long : length bits ≡ count) where
+      pub upper-sized : Sized (length (take (n / 2) rf)) (length (part (n / 2) (n / 2 + k - n / 2) bits)) (S .e)
+      upper-sized = inner-sized 0 (omega arith) R few bits (n / 2) (n / 2 + k - n / 2) long (omega arith) (omega arith)
+
+      module _ (ys : List ℕ) (upper : Sets rf (n / 2) (n / 2 + k - n / 2) bits ys) where
+        upper-set : InnerSet 0 (omega arith) bits (splice (n / 2) (n / 2 + k - n / 2) ys bits)
+        upper-set = inner-set 0 (omega arith) R few bits ys (n / 2) (n / 2 + k - n / 2) long (omega arith) (omega arith) upper
+
+        pub upper-long : length (splice (n / 2) (n / 2 + k - n / 2) ys bits) ≡ count
+        upper-long = inner-length 0 (omega arith) bits (splice (n / 2) (n / 2 + k - n / 2) ys bits) long upper-set ∙ long
+
+        pub lower-sized : Sized (length (take (n / 2) rf′)) (length (part (n / 2 + k) (n / 2 + (k + k) - (n / 2 + k)) (splice (n / 2) (n / 2 + k - n / 2) ys bits))) (S .e)
+        lower-sized = inner-sized 1 (omega arith) R′ few (splice (n / 2) (n / 2 + k - n / 2) ys bits) (n / 2 + k) (n / 2 + (k + k) - (n / 2 + k)) upper-long (omega arith) (omega arith)
+
+        pub both-set : (zs : List ℕ) → Outer forward bits → Sets rf′ (n / 2 + k) (n / 2 + (k + k) - (n / 2 + k)) (splice (n / 2) (n / 2 + k - n / 2) ys bits) zs
+            → splice (n / 2 + k) (n / 2 + (k + k) - (n / 2 + k)) zs (splice (n / 2) (n / 2 + k - n / 2) ys bits) ≡ setting d p
+        both-set zs O lower =
+            let after : List ℕ = splice (n / 2) (n / 2 + k - n / 2) ys bits in
+            level-setting bits after (splice (n / 2 + k) (n / 2 + (k + k) - (n / 2 + k)) zs after) long O upper-set
+            (inner-set 1 (omega arith) R′ few after zs (n / 2 + k) (n / 2 + (k + k) - (n / 2 + k)) upper-long (omega arith) (omega arith) lower)
+
+  -- two lines: their switch is crossed where line 0 leaves last
+  crossed-first : n ≡ 2 → chosen 2 p 0 ≡ getD forward 0 0
+  crossed-first two =
+      let P : Permutes 2 p = rw two at (I .permutes) in
+      let H : Halves 2 p (chosen 2 p) = chosen-halves 2 p P refl in
+      let apart : chosen 2 p 0 ≡ chosen 2 p 1 → ⊥ = H .inputs 0 (omega arith) in
+      elim (ℕ-discrete (p 0) 1) [
+        | yes e ↦ H .last 0 (omega arith) e ∙ sym e
+        | no ne ↦
+            let zero-first : p 0 ≡ 0 = omega (arith, P .below 0 (omega arith)) in
+            let last : p 1 ≡ 1 =
+            elim (ℕ-discrete (p 1) 0) [
+              | yes e ↦ absurd (omega (arith, P .injective 0 1 (omega arith) (omega arith) (zero-first ∙ sym e)))
+              | no f ↦ omega (arith, P .below 1 (omega arith))
+            ] in
+            let lower : chosen 2 p 1 ≡ 1 = H .last 1 (omega arith) last in
+            let upper : chosen 2 p 0 ≡ 0 = elim (ℕ-discrete (chosen 2 p 0) 1) [
+              | yes e ↦ absurd (apart (e ∙ sym lower))
+              | no f ↦ omega (arith, H .two 0 (omega arith))
+            ] in
+            upper ∙ sym zero-first
+      ]
+
+  pub two-setting : (d : ℕ) (bits : List ℕ) → n ≡ 2 → Sized n (length bits) d → set bits 0 (getD forward 0 0) ≡ setting d p
+  unfolding setting bitCount tabulate
+  two-setting zero bits two s = absurd (omega arith)
+  two-setting (suc zero) bits two s =
+      ext-getD 0 (set bits 0 (getD forward 0 0)) (setting 1 p) (length-set bits 0 (getD forward 0 0) ∙ s .1 ∙ sym (length-setting 1 p))
+      (λ i l.
+      let first : i ≡ 0 = omega (arith, s .1, length-set bits 0 (getD forward 0 0)) in
+      rw first (getD-set-same bits 0 (getD forward 0 0) 0 (omega (arith, s .1)) ∙ sym (crossed-first two)))
+  two-setting (suc (suc e)) bits two s = absurd (omega (arith, two-pow-succ (suc e), two-pow-succ e, pow-pos e))
 
 -- a network of one line has no bits
 pub one-setting : (d : ℕ) (bits : List ℕ) (p : ℕ → ℕ) → Sized 1 (length bits) d → bits ≡ setting d p

@@ -1,4 +1,4 @@
--- The loops of `wire`, `inner_of`, `narrow` and `invert`: each fills one place a turn, and what was filled before stays.
+-- The loops of `set_inputs`, `set_outputs`, `narrow` and `invert`: each turn fills one place of each list, and what was filled before stays.
 use Prim.Native.Nat.{ℕ, _+_, _*_, _-_, _/_, _%_, _<_, _≤_}
 use mathlib.Core.Path.{_≡_, refl, sym, ap, _∙_}
 use mathlib.Core.List.{List}
@@ -8,41 +8,47 @@ use lib.ListN.{length, getD, set, length-set}
 use lib.Seq.{getD-set-same, getD-set-other}
 use Rattle.laws.proofs.Tabulates.{stored-turn}
 use Rattle.laws.specs.Permutation.{Permutes}
-use Rattle.network.specs.Steps.{Wired, Inverting}
+use Rattle.network.specs.Steps.{Placed, Picked, Divided, Inverting}
 
--- the input switches below j and the output switches below k have their bits
-pub record Wiring (half back : List ℕ) (from size j k : ℕ) (bits : List ℕ) : Type 0 where
-  pub long : length bits ≡ size
-  pub inputs : (i : ℕ) → i < j → getD bits i 0 ≡ getD half (2 * i) 0
-  pub outputs : (i : ℕ) → i < k → getD bits (from + i) 0 ≡ getD half (getD back (2 * i) 0) 0
-
-pub wiring-none : (half back bits : List ℕ) (from : ℕ) → Wiring half back from (length bits) 0 0 bits
-wiring-none half back bits from = record { long = refl; inputs = λ i l. absurd (omega arith); outputs = λ i l. absurd (omega arith) }
-
-pub wiring-input : {half back bits : List ℕ} {from size j : ℕ} → Wiring half back from size j 0 bits → j < size
-    → Wiring half back from size (j + 1) 0 (set bits j (getD half (2 * j) 0))
-wiring-input {half} {back} {bits} {from} {size} {j} W l = record {
-  long = length-set bits j (getD half (2 * j) 0) ∙ W .long;
-  inputs = stored-turn bits (λ i. i) (λ i. getD half (2 * i) 0) j (getD half (2 * j) 0) 0 (omega (arith, W .long)) (λ i m e. omega arith) refl (W .inputs);
-  outputs = λ i m. absurd (omega arith);
+-- one more inner line, and one more bit
+picked-more : {bit : ℕ → ℕ} {images : List ℕ} {h n i : ℕ} {inner : List ℕ} → Picked bit n images h inner → n < 32 → i ≡ 2 * n + (h + bit n) % 2
+    → Picked bit (n + 1) images h (set inner n (getD images i 0 / 2))
+picked-more {bit} {images} {h} {n} {i} {inner} P l e = record {
+  long = length-set inner n _ ∙ P .long;
+  each = stored-turn inner (λ j. j) (λ j. getD images (2 * j + (h + bit j) % 2) 0 / 2) n _ 0 (omega (arith, P .long)) (λ j m q. omega arith)
+      (ap (λ (z : ℕ). getD images z 0 / 2) e) (P .each);
 }
 
--- from the first loop to the second
-pub wiring-next : {half back bits : List ℕ} {from size j : ℕ} (m : ℕ) → Wiring half back from size j 0 bits → m ≤ j → Wiring half back from (length bits) m 0 bits
-wiring-next m W l = record { long = refl; inputs = λ i b. W .inputs i (omega arith); outputs = W .outputs }
-
-pub wiring-output : {half back bits : List ℕ} {from size j k v : ℕ} → Wiring half back from size j k bits → from + k < size → j ≤ from → v ≡ getD back (2 * k) 0
-    → Wiring half back from size j (k + 1) (set bits (from + k) (getD half v 0))
-wiring-output {half} {back} {bits} {from} {size} {j} {k} {v} W l below e = record {
-  long = length-set bits (from + k) (getD half v 0) ∙ W .long;
-  inputs = λ i m. getD-set-other bits (from + k) i (getD half v 0) 0 (λ q. omega arith) ∙ W .inputs i m;
-  outputs = stored-turn bits (λ i. from + i) (λ i. getD half (getD back (2 * i) 0) 0) k (getD half v 0) 0 (omega (arith, W .long)) (λ i m q. omega arith)
-      (ap (λ (z : ℕ). getD half z 0) e) (W .outputs);
+placed-more : {bit : ℕ → ℕ} {from n b : ℕ} {before after : List ℕ} → Placed bit from n before after → from + n < length before → b ≡ bit n
+    → Placed bit from (n + 1) before (set after (from + n) b)
+placed-more {bit} {from} {n} {b} {before} {after} P l e = record {
+  long = length-set after (from + n) b ∙ P .long;
+  placed = stored-turn after (λ j. from + j) bit n b 0 (omega (arith, P .long)) (λ j m q. omega arith) e (P .placed);
+  kept = λ i m. getD-set-other after (from + n) i b 0 (λ q. omega arith) ∙ P .kept i m;
 }
 
-pub wiring-all : {half back bits : List ℕ} {from size j k : ℕ} → Wiring half back from size j k bits → length back / 2 ≤ j → length back / 2 ≤ k + 1
-    → Wired half back from bits
-wiring-all W l m = record { inputs = λ i b. W .inputs i (omega arith); outputs = λ i b. W .outputs i (omega arith) }
+-- one level's switches: none, one more, and the last output switch, which has no bit
+module _ {bit : ℕ → ℕ} {from : ℕ} {images before : List ℕ} where
+  pub divided-none : {upper lower : List ℕ} → length upper ≡ 32 → length lower ≡ 32 → Divided bit from 0 0 images before before upper lower
+  divided-none above beneath = record {
+    bits = record { long = refl; placed = λ j l. absurd (omega arith); kept = λ i l. refl };
+    above = record { long = above; each = λ j l. absurd (omega arith) };
+    beneath = record { long = beneath; each = λ j l. absurd (omega arith) };
+  }
+
+  pub divided-more : {n k b i g : ℕ} {after upper lower : List ℕ} → Divided bit from n n images before after upper lower → n < 32
+      → from + n < length before → k ≡ from + n → b ≡ bit n → i ≡ 2 * n + (0 + bit n) % 2 → g ≡ 2 * n + (1 + bit n) % 2
+      → Divided bit from (n + 1) (n + 1) images before (set after k b) (set upper n (getD images i 0 / 2)) (set lower n (getD images g 0 / 2))
+  divided-more D l room ek eb ei eg = record {
+    bits = rw ek (placed-more (D .bits) room eb);
+    above = picked-more (D .above) l ei;
+    beneath = picked-more (D .beneath) l eg;
+  }
+
+  pub divided-last : {n m i g : ℕ} {after upper lower : List ℕ} → Divided bit from n n images before after upper lower → n < 32 → m ≡ n + 1
+      → i ≡ 2 * n + (0 + bit n) % 2 → g ≡ 2 * n + (1 + bit n) % 2
+      → Divided bit from n m images before after (set upper n (getD images i 0 / 2)) (set lower n (getD images g 0 / 2))
+  divided-last D l em ei eg = rw em (record { bits = D .bits; above = picked-more (D .above) l ei; beneath = picked-more (D .beneath) l eg })
 
 -- an array of `size` whose first j entries are f's
 pub record Filling (f : ℕ → ℕ) (size j : ℕ) (xs : List ℕ) : Type 0 where

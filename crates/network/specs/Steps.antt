@@ -1,14 +1,13 @@
 -- What the private steps of setting and routing leave. Only their contracts cite these.
-use Prim.Native.Nat.{ℕ, suc, _+_, _*_, _-_, _/_, _%_, _^_, _<_, _≤_}
+use Prim.Native.Nat.{ℕ, _+_, _*_, _-_, _/_, _%_, _<_, _≤_}
 use mathlib.Core.Path.{_≡_}
 use mathlib.Core.List.{List}
 use lib.ListN.{length, getD}
 use Rattle.laws.specs.Choice.{ifEq}
 use Rattle.laws.specs.Permutation.{Permutes, inverse}
-use Rattle.laws.specs.Splice.{splice}
-use Rattle.network.specs.Network.{bitCount, partner, exit}
+use Rattle.network.specs.Network.{partner, exit}
 use Rattle.network.specs.Rule.{inner}
-use Rattle.network.specs.Setting.{chosen, setting}
+use Rattle.network.specs.Setting.{chosen}
 
 -- where walk number t starts: at the line beside the one that leaves last, then at the even line of each switch
 unfoldable pub startAt : List ℕ → ℕ → ℕ
@@ -20,17 +19,32 @@ pub record Inverses (forward back : List ℕ) : Type 0 where
   pub permutes : Permutes (length forward) (λ i. getD forward i 0)
   pub inverts : (y : ℕ) → y < length forward → getD back y 0 ≡ inverse (length forward) (λ i. getD forward i 0) y
 
--- room for the bits of the outer switches of as many lines as back lists
-pub record Wirable (back bits : List ℕ) (from : ℕ) : Type 0 where
+-- bits of n switches stand from `from` on, where switch j has `bit j`, and before them all is as it was
+pub record Placed (bit : ℕ → ℕ) (from n : ℕ) (before after : List ℕ) : Type 0 where
+  pub long : length after ≡ length before
+  pub placed : (j : ℕ) → j < n → getD after (from + j) 0 ≡ bit j
+  pub kept : (i : ℕ) → i < from → getD after i 0 ≡ getD before i 0
+
+-- for each of n switches, where switch j has `bit j`, the inner line to which the image of the line of half h belongs
+pub record Picked (bit : ℕ → ℕ) (n : ℕ) (images : List ℕ) (h : ℕ) (inner : List ℕ) : Type 0 where
+  pub long : length inner ≡ 32
+  pub each : (j : ℕ) → j < n → getD inner j 0 ≡ getD images (2 * j + (h + bit j) % 2) 0 / 2
+
+-- n bits are placed, and m inner lines of each half picked
+pub record Divided (bit : ℕ → ℕ) (from n m : ℕ) (images before after upper lower : List ℕ) : Type 0 where
+  pub bits : Placed bit from n before after
+  pub above : Picked bit m images 0 upper
+  pub beneath : Picked bit m images 1 lower
+
+-- room for the bits of the output switches of as many lines as back lists, and for what the halves get; the last switch stands straight
+pub record Wirable (half back bits : List ℕ) (from : ℕ) (upper lower : List ℕ) : Type 0 where
   pub few : length back ≤ 64
   pub lines : (y : ℕ) → y < length back → getD back y 0 < 64
-  pub room : from + length back / 2 ≤ length bits + 1
-  pub behind : length back / 2 ≤ from
-
--- the bits of the outer switches, from the halves of the lines
-pub record Wired (half back : List ℕ) (from : ℕ) (bits : List ℕ) : Type 0 where
-  pub inputs : (j : ℕ) → j < length back / 2 → getD bits j 0 ≡ getD half (2 * j) 0
-  pub outputs : (j : ℕ) → j + 1 < length back / 2 → getD bits (from + j) 0 ≡ getD half (getD back (2 * j) 0) 0
+  pub behind : from ≤ length bits
+  pub room : length back / 2 ≡ length bits - from + 1
+  pub straight : getD half (getD back (2 * (length bits - from)) 0) 0 ≡ 0
+  pub above : length upper ≡ 32
+  pub beneath : length lower ≡ 32
 
 -- what half h takes in at the first n input switches: what stands on the line that goes to that half
 pub record Taken (n : ℕ) (bits lines : List ℕ) (h : ℕ) (inner : List ℕ) : Type 0 where
@@ -61,22 +75,19 @@ innerCount width count = (count - (width - 1)) / 2
 abbrev pub outputsAt : ℕ → ℕ → ℕ
 outputsAt width count = width / 2 + (innerCount width count + innerCount width count)
 
--- for each switch, whose bits start at `at`, the inner line to which the image of the line of half h belongs
-pub record Picked (bits : List ℕ) (at : ℕ) (images : List ℕ) (h : ℕ) (inner : List ℕ) : Type 0 where
-  pub long : length inner ≡ 32
-  pub each : (j : ℕ) → j < length images / 2 → getD inner j 0 ≡ getD images (2 * j + (h + getD bits (at + j) 0) % 2) 0 / 2
-
--- the outer switches stand by the rule; the last output switch has no bit, and past the end a bit is 0
+-- the outer switches stand by the rule
 pub record Outer (forward bits : List ℕ) : Type 0 where
   pub inputs : (j : ℕ) → j < length forward / 2 → getD bits j 0 ≡ chosen (length forward) (λ i. getD forward i 0) (2 * j)
-  pub outputs : (j : ℕ) → j < length forward / 2 → getD bits (outputsAt (length forward) (length bits) + j) 0
+  pub outputs : (j : ℕ) → j + 1 < length forward / 2 → getD bits (outputsAt (length forward) (length bits) + j) 0
       ≡ chosen (length forward) (λ i. getD forward i 0) (inverse (length forward) (λ i. getD forward i 0) (2 * j))
 
--- the bits of the inner network of half c are its setting, and the others are as they were
-abbrev pub InnerSet : ℕ → List ℕ → ℕ → List ℕ → List ℕ → Type 0
-InnerSet d forward c before after =
-    (e : ℕ) → d ≡ suc e
-    → after ≡ splice (2 ^ e + c * bitCount e) (bitCount e) (setting e (inner (λ i. getD forward i 0) (chosen (length forward) (λ i. getD forward i 0)) c)) before
+-- arrays of 32 that start with the permutation of the inner lines that half c has to perform, and with its inverse
+pub record InnerPair (forward : List ℕ) (c : ℕ) (images back : List ℕ) : Type 0 where
+  pub long : length images ≡ 32
+  pub long-back : length back ≡ 32
+  pub performs : (j : ℕ) → j < length forward / 2 → getD images j 0 ≡ inner (λ i. getD forward i 0) (chosen (length forward) (λ i. getD forward i 0)) c j
+  pub inverts : (j : ℕ) → j < length forward / 2
+      → getD back j 0 ≡ inverse (length forward / 2) (inner (λ i. getD forward i 0) (chosen (length forward) (λ i. getD forward i 0)) c) j
 
 -- the first images, in an array of 64
 pub record Narrowed (width : ℕ) (images r : List ℕ) : Type 0 where

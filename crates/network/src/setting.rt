@@ -5,11 +5,12 @@ ghost use lib.ListN.{length, getD};
 ghost use Rattle.laws.specs.Permutation.{Permutes};
 ghost use Rattle.network.specs.Setting.{setting, chosen};
 ghost use Rattle.network.specs.Calls.{Sized, outcome, setOf};
-ghost use Rattle.network.specs.Steps.{startAt, Inverses, Wirable, Wired, Picked, Outer, InnerSet, Narrowed, Inverting};
+ghost use Rattle.network.specs.Steps.{startAt, Inverses, Divided, Wirable, Outer, InnerPair, Narrowed, Inverting};
 use crate::widths::bit_count;
 use crate::widths::depth_of;
 use crate::widths::partner_of;
 use crate::widths::value_at;
+use crate::widths::wide;
 use images::Checked;
 use refusal::Refusal;
 
@@ -59,73 +60,79 @@ fn halves(forward: &[u8], back: &[u8]) -> [u8; 64]
     half
 }
 
-// The bits of the outer switches: a switch is crossed where the even line takes, or comes from, the lower half.
-// The bits of the output switches start at `from`.
-fn wire(half: &[u8; 64], back: &[u8], bits: &mut [u8], from: usize)
-    requires { ⌜ Wirable (now back) (now bits) from ⌝ }
-    ensures { λ _. ⌜ Wired (now (half .entry)) (now (back .entry)) from (now (bits .exit)) ⌝ }
+// The input switches: a switch is crossed where its even line takes the lower half. The halves get what they have to perform.
+fn set_inputs(
+    half: &[u8; 64],
+    forward: &[u8],
+    bits: &mut [u8],
+    upper: &mut [u8; 32],
+    lower: &mut [u8; 32],
+)
+    requires { ⌜ (length (now forward) ≤ 64) × (length (now forward) / 2 ≤ length (now bits)) × (length (now upper) ≡ 32) × (length (now lower) ≡ 32) ⌝ }
+    ensures { λ _. ⌜ Divided (λ j. getD (now (half .entry)) (2 * j) 0) 0 (length (now (forward .entry)) / 2) (length (now (forward .entry)) / 2) (now (forward .entry)) (now (bits .entry)) (now (bits .exit)) (now (upper .exit)) (now (lower .exit)) ⌝ }
 {
-    let m = back.len() / 2;
+    let m = forward.len() / 2;
     let mut j = 0;
     while j < m {
-        bits[j] = half[2 * j];
+        let bit = half[2 * j];
+        bits[j] = bit;
+        let crossed = wide(bit) % 2;
+        upper[j] = forward[2 * j + crossed] / 2;
+        lower[j] = forward[2 * j + 1 - crossed] / 2;
         j += 1;
-    }
-    let mut k = 0;
-    while k + 1 < m {
-        bits[from + k] = half[value_at(back, 2 * k)];
-        k += 1;
     }
 }
 
-// The permutation of the inner lines that a half has to perform, or its inverse: `images` is the permutation with the bits of
-// the input switches, or the inverse with those of the output switches, from position `at` on.
-fn inner_of(bits: &[u8], at: usize, images: &[u8], half: usize) -> [u8; 32]
-    requires { ⌜ (length (now images) ≤ 64) × (at ≤ length (now bits)) × (half < 2) ⌝ }
-    ensures { λ r. ⌜ Picked (now (bits .entry)) at (now (images .entry)) half r ⌝ }
+// The output switches, whose bits start at `from`: a switch is crossed where its even line comes from the lower half. The last one has
+// no bit and stands straight. The halves get the inverse of what they have to perform.
+fn set_outputs(
+    half: &[u8; 64],
+    back: &[u8],
+    bits: &mut [u8],
+    from: usize,
+    upper: &mut [u8; 32],
+    lower: &mut [u8; 32],
+)
+    requires { ⌜ Wirable (now half) (now back) (now bits) from (now upper) (now lower) ⌝ }
+    ensures { λ _. ⌜ Divided (λ j. getD (now (half .entry)) (getD (now (back .entry)) (2 * j) 0) 0) from (length (now (bits .entry)) - from) (length (now (back .entry)) / 2) (now (back .entry)) (now (bits .entry)) (now (bits .exit)) (now (upper .exit)) (now (lower .exit)) ⌝ }
 {
-    let m = images.len() / 2;
-    let mut inner = [0u8; 32];
+    let last = bits.len() - from;
     let mut j = 0;
-    while j < m {
-        let line = 2 * j + (half + value_at(bits, at + j)) % 2;
-        inner[j] = images[line] / 2;
+    while j < last {
+        let bit = half[wide(back[2 * j])];
+        bits[from + j] = bit;
+        let crossed = wide(bit) % 2;
+        upper[j] = back[2 * j + crossed] / 2;
+        lower[j] = back[2 * j + 1 - crossed] / 2;
         j += 1;
     }
-    inner
+    upper[last] = back[2 * last] / 2;
+    lower[last] = back[2 * last + 1] / 2;
 }
 
-// The outer switches of a network of more than one line are set by the rule.
-fn set_outer(forward: &[u8], back: &[u8], bits: &mut [u8])
+// The outer switches of a network of more than one line are set by the rule. The halves get the permutations of the inner lines that they
+// have to perform, and the inverses.
+fn set_outer(
+    forward: &[u8],
+    back: &[u8],
+    bits: &mut [u8],
+    upper: &mut [u8; 32],
+    lower: &mut [u8; 32],
+    upperback: &mut [u8; 32],
+    lowerback: &mut [u8; 32],
+)
     requires { ⌜ ((d : ℕ) × Sized (length (now forward)) (length (now bits)) d) ⌝ }
     requires { ⌜ (1 < length (now forward)) × (length (now forward) ≤ 64) ⌝ }
     requires { ⌜ Inverses (now forward) (now back) ⌝ }
+    requires { ⌜ (length (now upper) ≡ 32) × (length (now lower) ≡ 32) × (length (now upperback) ≡ 32) × (length (now lowerback) ≡ 32) ⌝ }
     ensures { λ _. ⌜ Outer (now (forward .entry)) (now (bits .exit)) ⌝ }
+    ensures { λ _. ⌜ InnerPair (now (forward .entry)) 0 (now (upper .exit)) (now (upperback .exit)) ⌝ }
+    ensures { λ _. ⌜ InnerPair (now (forward .entry)) 1 (now (lower .exit)) (now (lowerback .exit)) ⌝ }
 {
-    let n = forward.len();
-    let inner = (bits.len() - (n - 1)) / 2;
+    let from = bits.len() - (forward.len() / 2 - 1);
     let half = halves(forward, back);
-    wire(&half, back, bits, n / 2 + (inner + inner));
-}
-
-// The inner network of a half is set, once the outer switches are.
-fn set_inner(forward: &[u8], back: &[u8], bits: &mut [u8], half: usize)
-    requires { ⌜ ((d : ℕ) × Sized (length (now forward)) (length (now bits)) d) ⌝ }
-    requires { ⌜ (1 < length (now forward)) × (length (now forward) ≤ 64) × (half < 2) ⌝ }
-    requires { ⌜ Inverses (now forward) (now back) ⌝ }
-    requires { ⌜ Outer (now forward) (now bits) ⌝ }
-    ensures { λ _. ⌜ ((d : ℕ) → Sized (length (now (forward .entry))) (length (now (bits .entry))) d → InnerSet d (now (forward .entry)) half (now (bits .entry)) (now (bits .exit))) ⌝ }
-{
-    let m = forward.len() / 2;
-    let inner = (bits.len() - (forward.len() - 1)) / 2;
-    let inner_forward = inner_of(bits, 0, forward, half);
-    let inner_back = inner_of(bits, m + (inner + inner), back, half);
-    let from = m + half * inner;
-    set_bits(
-        &inner_forward[..m],
-        &inner_back[..m],
-        &mut bits[from..from + inner],
-    );
+    set_inputs(&half, forward, bits, upper, lower);
+    set_outputs(&half, back, bits, from, upperback, lowerback);
 }
 
 // The bits of a network for the permutation `forward`, whose inverse is `back`. The width halves from call to call.
@@ -136,12 +143,34 @@ pub fn set_bits(forward: &[u8], back: &[u8], bits: &mut [u8])
     requires { ⌜ Inverses (now forward) (now back) ⌝ }
     ensures { λ _. ⌜ ((d : ℕ) → Sized (length (now (forward .entry))) (length (now (bits .entry))) d → now (bits .exit) ≡ setting d (λ i. getD (now (forward .entry)) i 0)) ⌝ }
 {
-    if forward.len() == 1 {
+    let width = forward.len();
+    if width == 1 {
         return;
     }
-    set_outer(forward, back, bits);
-    set_inner(forward, back, bits, 0);
-    set_inner(forward, back, bits, 1);
+    // Two lines are one switch, crossed where line 0 leaves last.
+    if width == 2 {
+        bits[0] = forward[0];
+        return;
+    }
+    let m = width / 2;
+    let inner = (bits.len() - (width - 1)) / 2;
+    let middle = m + inner;
+    let outputs = m + (inner + inner);
+    let mut upper = [0u8; 32];
+    let mut lower = [0u8; 32];
+    let mut upper_back = [0u8; 32];
+    let mut lower_back = [0u8; 32];
+    set_outer(
+        forward,
+        back,
+        bits,
+        &mut upper,
+        &mut lower,
+        &mut upper_back,
+        &mut lower_back,
+    );
+    set_bits(&upper[..m], &upper_back[..m], &mut bits[m..middle]);
+    set_bits(&lower[..m], &lower_back[..m], &mut bits[middle..outputs]);
 }
 
 // The images as bytes.
