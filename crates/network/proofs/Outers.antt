@@ -13,9 +13,9 @@ use lib.Seq.{getD-take, getD-set-same, length-take-le, ext-getD}
 use Rattle.laws.specs.Permutation.{Permutes, inverse}
 use Rattle.laws.specs.Splice.{part, splice}
 use Rattle.laws.specs.Tabulate.{tabulate}
-use Rattle.laws.proofs.Permutations.{inverse-below, inverse-right, inverse-left, inverse-unique, inverse-ext, permutes-ext}
+use Rattle.laws.proofs.Permutations.{inverse-below, inverse-left, inverse-unique, inverse-ext, permutes-ext}
 use Rattle.laws.proofs.Splices.{length-part, length-splice, getD-splice-before, getD-splice-inside, getD-splice-behind}
-use Rattle.network.specs.Network.{bitCount, partner, exit}
+use Rattle.network.specs.Network.{bitCount, exit}
 use Rattle.network.specs.Rule.{Halves, lineOf, inner}
 use Rattle.network.specs.Setting.{chosen, setting}
 use Rattle.network.specs.Calls.{Sized}

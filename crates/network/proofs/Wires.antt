@@ -1,11 +1,10 @@
 -- The loops of `set_inputs`, `set_outputs`, `narrow` and `invert`: each turn fills one place of each list, and what was filled before stays.
 use Prim.Native.Nat.{ℕ, _+_, _*_, _-_, _/_, _%_, _<_, _≤_}
-use mathlib.Core.Path.{_≡_, refl, sym, ap, _∙_}
+use mathlib.Core.Path.{_≡_, refl, ap, _∙_}
 use mathlib.Core.List.{List}
 use native.Mathlib.Omega.{arith}
-use native.Mathlib.Decide.{ℕ-discrete}
 use lib.ListN.{length, getD, set, length-set}
-use lib.Seq.{getD-set-same, getD-set-other}
+use lib.Seq.{getD-set-other}
 use Rattle.laws.proofs.Tabulates.{stored-turn}
 use Rattle.laws.specs.Permutation.{Permutes}
 use Rattle.network.specs.Steps.{Placed, Picked, Divided, Inverting}

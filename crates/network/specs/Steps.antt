@@ -30,11 +30,20 @@ pub record Picked (bit : ℕ → ℕ) (n : ℕ) (images : List ℕ) (h : ℕ) (i
   pub long : length inner ≡ 32
   pub each : (j : ℕ) → j < n → getD inner j 0 ≡ getD images (2 * j + (h + bit j) % 2) 0 / 2
 
--- n bits are placed, and m inner lines of each half picked
+-- n bits are placed, and m inner lines of each half picked, as `images` says
 pub record Divided (bit : ℕ → ℕ) (from n m : ℕ) (images before after upper lower : List ℕ) : Type 0 where
   pub bits : Placed bit from n before after
   pub above : Picked bit m images 0 upper
   pub beneath : Picked bit m images 1 lower
+
+-- the input switches stand by the halves of their even lines, and the output switches by the halves from which their even lines come
+abbrev pub InputsSet : List ℕ → List ℕ → List ℕ → List ℕ → List ℕ → List ℕ → Type 0
+InputsSet half forward before after upper lower =
+    Divided (λ j. getD half (2 * j) 0) 0 (length forward / 2) (length forward / 2) forward before after upper lower
+
+abbrev pub OutputsSet : List ℕ → List ℕ → ℕ → List ℕ → List ℕ → List ℕ → List ℕ → Type 0
+OutputsSet half back from before after upper lower =
+    Divided (λ j. getD half (getD back (2 * j) 0) 0) from (length before - from) (length back / 2) back before after upper lower
 
 -- room for the bits of the output switches of as many lines as back lists, and for what the halves get; the last switch stands straight
 pub record Wirable (half back bits : List ℕ) (from : ℕ) (upper lower : List ℕ) : Type 0 where
@@ -56,7 +65,7 @@ pub record Joined (n : ℕ) (bits : List ℕ) (from : ℕ) (upper lower lines : 
   pub above : (j : ℕ) → j < n → getD lines (exit (λ i. getD bits (from + i) 0) 0 j) 0 ≡ getD upper j 0
   pub beneath : (j : ℕ) → j < n → getD lines (exit (λ i. getD bits (from + i) 0) 1 j) 0 ≡ getD lower j 0
 
--- room for what m lines of each half give out: the bits from `from` on are those of all output switches but the last
+-- room for what the inner lines of each half give out: the bits from `from` on are those of all output switches but the last
 pub record Givable (bits : List ℕ) (from : ℕ) (upper lower lines : List ℕ) : Type 0 where
   pub few : length lines ≤ 64
   pub pairs : length lines ≡ 2 * (length bits - from) + 2

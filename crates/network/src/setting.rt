@@ -5,7 +5,7 @@ ghost use lib.ListN.{length, getD};
 ghost use Rattle.laws.specs.Permutation.{Permutes};
 ghost use Rattle.network.specs.Setting.{setting, chosen};
 ghost use Rattle.network.specs.Calls.{Sized, outcome, setOf};
-ghost use Rattle.network.specs.Steps.{startAt, Inverses, Divided, Wirable, Outer, InnerPair, Narrowed, Inverting};
+ghost use Rattle.network.specs.Steps.{startAt, Inverses, InputsSet, Wirable, OutputsSet, Outer, InnerPair, Narrowed, Inverting};
 use crate::widths::bit_count;
 use crate::widths::depth_of;
 use crate::widths::partner_of;
@@ -69,7 +69,7 @@ fn set_inputs(
     lower: &mut [u8; 32],
 )
     requires { ⌜ (length (now forward) ≤ 64) × (length (now forward) / 2 ≤ length (now bits)) × (length (now upper) ≡ 32) × (length (now lower) ≡ 32) ⌝ }
-    ensures { λ _. ⌜ Divided (λ j. getD (now (half .entry)) (2 * j) 0) 0 (length (now (forward .entry)) / 2) (length (now (forward .entry)) / 2) (now (forward .entry)) (now (bits .entry)) (now (bits .exit)) (now (upper .exit)) (now (lower .exit)) ⌝ }
+    ensures { λ _. ⌜ InputsSet (now (half .entry)) (now (forward .entry)) (now (bits .entry)) (now (bits .exit)) (now (upper .exit)) (now (lower .exit)) ⌝ }
 {
     let m = forward.len() / 2;
     let mut j = 0;
@@ -94,7 +94,7 @@ fn set_outputs(
     lower: &mut [u8; 32],
 )
     requires { ⌜ Wirable (now half) (now back) (now bits) from (now upper) (now lower) ⌝ }
-    ensures { λ _. ⌜ Divided (λ j. getD (now (half .entry)) (getD (now (back .entry)) (2 * j) 0) 0) from (length (now (bits .entry)) - from) (length (now (back .entry)) / 2) (now (back .entry)) (now (bits .entry)) (now (bits .exit)) (now (upper .exit)) (now (lower .exit)) ⌝ }
+    ensures { λ _. ⌜ OutputsSet (now (half .entry)) (now (back .entry)) from (now (bits .entry)) (now (bits .exit)) (now (upper .exit)) (now (lower .exit)) ⌝ }
 {
     let last = bits.len() - from;
     let mut j = 0;

@@ -1,6 +1,6 @@
 -- `routing::give_out` meets its contract: after j turns the lines of the first j output switches hold what the inner lines gave out, and
 -- the last output switch is one turn more, with a bit that counts as 0.
-use Prim.Native.Nat.{_+_, _*_, _-_, _/_, _≤_}
+use Prim.Native.Nat.{_-_, _≤_}
 use mathlib.Core.Path.{_≡_, refl}
 use native.Mathlib.Omega.{arith}
 use borrow.Author.Needs.{needs}

@@ -1,5 +1,4 @@
 -- `routing::pass_switch` meets its contract: the one store tells the even line and the other the odd line.
-use mathlib.Core.Path.{refl}
 use borrow.Author.Needs.{needs}
 use Rattle.network.proofs.Routes.{switched}
 use Rattle.network.proofs.routing.pass_switch.Statement.{statement}

@@ -1,11 +1,8 @@
 -- `network::setting::set_outer` meets its contract: the halves are those of the rule, the switches are set by them, and what each half has
 -- to perform is read off as the switches are set.
-use Prim.Native.Nat.{_+_, _-_, _/_, _<_}
 use mathlib.Core.Path.{refl}
 use native.Mathlib.Omega.{arith}
 use borrow.Author.Needs.{needs}
-use lib.ListN.{length}
-use Rattle.network.specs.Calls.{Sized}
 use Rattle.network.proofs.Sizes.{parted}
 use Rattle.network.proofs.Outers.{wirable, outer, inner-pair}
 use Rattle.network.proofs.setting.set_outer.Statement.{statement}

@@ -1,6 +1,6 @@
 -- `network::setting::set_outputs` meets its contract: turn j sets output switch j, and picks a line of each half. The last switch, which
 -- has no bit, stands straight by the requirement, so its even line is the upper half's.
-use Prim.Native.Nat.{ℕ, _+_, _*_, _-_, _/_, _%_, _≤_}
+use Prim.Native.Nat.{ℕ, _*_, _-_, _≤_}
 use mathlib.Core.Path.{_≡_, refl, ap}
 use native.Mathlib.Omega.{arith}
 use borrow.Author.Needs.{needs}
