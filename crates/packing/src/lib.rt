@@ -8,7 +8,7 @@ ghost use Rattle.network.specs.Steps.{Inverses};
 ghost use Rattle.network.specs.Calls.{Sized};
 ghost use Rattle.tables.specs.Terms.{Dims, cycles, fileLength};
 ghost use Rattle.tables.specs.Format.{shapeOf};
-ghost use Rattle.packing.specs.Packing.{putFields, putHeader, putLine, putFilling, Planned, Ready};
+ghost use Rattle.packing.specs.Packing.{numberOf, putFields, putHeader, putLine, putFilling, Planned, Ready};
 use tables::Shape;
 
 // What one line of a set is to do.
@@ -35,16 +35,35 @@ fn put_addresses(file: &mut [u8], at: usize, width: usize, values: &[u16], count
     }
 }
 
-// The bits from bit `at` on.
+// The number that `count` bits write, from `values[from]` on, the first of them highest.
+fn number_of(values: &[u8], from: usize, count: usize) -> u16
+    requires { ⌜ (from + count ≤ length (now values)) × (count ≤ 16) × (from + count < 2 ^ 32) ⌝ }
+    requires { ⌜ ((i : ℕ) → i < length (now values) → getD (now values) i 0 < 2) ⌝ }
+    ensures { λ r. ⌜ (r ≡ numberOf (now (values .entry)) from count) × (r < 2 ^ count) ⌝ }
+{
+    let mut number: u16 = 0;
+    let mut i = 0;
+    while i < count {
+        number = number * 2 + values[from + i] as u16;
+        i += 1;
+    }
+    number
+}
+
+// The bits from bit `at` on. A field takes 16 of them, since one field of 16 bits is cheaper than 16 fields of one bit.
 fn put_bits(file: &mut [u8], at: usize, values: &[u8])
     requires { ⌜ (at + length (now values) ≤ 8 * length (now file)) × (at < 2 ^ 32) × (length (now values) ≤ 321) ⌝ }
     requires { ⌜ ((i : ℕ) → i < length (now values) → getD (now values) i 0 < 2) ⌝ }
     ensures { λ _. ⌜ now (file .exit) ≡ putFields (now (file .entry)) at 1 (now (values .entry)) (length (now (values .entry))) ⌝ }
 {
     let mut i = 0;
-    while i < values.len() {
-        bits::put_field(file, at + i, 1, values[i] as u16);
-        i += 1;
+    while i + 16 <= values.len() {
+        bits::put_field(file, at + i, 16, number_of(values, i, 16));
+        i += 16;
+    }
+    let rest = values.len() - i;
+    if 0 < rest {
+        bits::put_field(file, at + i, rest, number_of(values, i, rest));
     }
 }
 
