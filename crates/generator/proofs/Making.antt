@@ -60,7 +60,7 @@ module _ {n w : ℕ} {p : ℕ → ℕ} {reads : ℕ → ℕ → ℕ} {t : ℕ} {
         subst (λ (z : ℕ). getD forward z 0 ≡ portOf w p more t z) (k .2) (L .ahead (k .0) (k .1) ∙ sym (took-port T (k .0) (k .1)))
         ∙ sym (carried-below w (portOf w p more t) x b)
     | no b ↦
-        L .ahead-spare x (omega arith) (omega (arith, lines-few D)) ∙ sym (carried-above w (portOf w p more t) x (omega arith))
+        L .blank .ahead-spare x (omega arith) (omega (arith, lines-few D)) ∙ sym (carried-above w (portOf w p more t) x (omega arith))
   ]
 
   plan-write : (k : ℕ) → k < w → getD writes k 0 ≡ writeOf w p more t k
@@ -79,10 +79,10 @@ module _ {n w : ℕ} {p : ℕ → ℕ} {reads : ℕ → ℕ → ℕ} {t : ℕ} {
   -- and the line can be put
   pub plan-ready : Ready n w addresses forward back writes
   plan-ready = record {
-    reads-long = L .reads-long;
-    forward-long = L .forward-long;
-    back-long = L .back-long;
-    writes-long = L .writes-long;
+    reads-long = L .blank .reads-long;
+    forward-long = L .blank .forward-long;
+    back-long = L .blank .back-long;
+    writes-long = L .blank .writes-long;
     reads-below = λ b l.
         let k = bank-word words (T .banked) b l in
         let e : getD addresses b 0 ≡ getD words (k .0) 0 / w = sym (ap (λ (z : ℕ). getD addresses z 0) (k .2)) ∙ L .read (k .0) (k .1) in
@@ -91,9 +91,9 @@ module _ {n w : ℕ} {p : ℕ → ℕ} {reads : ℕ → ℕ → ℕ} {t : ℕ} {
     inverses =
         front-inverses (2 ^ depth w) forward forward (lines-few D)
         (permutes-ext (2 ^ depth w) (carried w (portOf w p more t)) (λ x. getD forward x 0) (λ x l. sym (plan-carried x l)) lines)
-        (record { long = L .forward-long; each = λ x l. refl }) back
+        (record { long = L .blank .forward-long; each = λ x l. refl }) back
         (record {
-          long = L .back-long;
+          long = L .blank .back-long;
           filled = λ x l. ap (λ (z : ℕ). getD back z 0) (getD-take (2 ^ depth w) forward x 0 l) ∙ returned x l;
         });
   }
@@ -107,7 +107,7 @@ module _ {n w : ℕ} {p : ℕ → ℕ} {reads : ℕ → ℕ → ℕ} {t : ℕ} {
             ∙ L .from (k .0) (k .1) ∙ k .2
         | no b ↦
             let s : x < 64 = omega (arith, lines-few D) in
-            ap (λ (z : ℕ). getD back z 0) (L .ahead-spare x (omega arith) s) ∙ L .from-spare x (omega arith) s
+            ap (λ (z : ℕ). getD back z 0) (L .blank .ahead-spare x (omega arith) s) ∙ L .blank .from-spare x (omega arith) s
       ]
 
 -- all lines put, and the filling

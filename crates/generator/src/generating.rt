@@ -56,10 +56,34 @@ fn make(images: &[u16], n: usize, w: usize, file: &mut [u8], next: &mut [u16]) -
     let mut heads = chain(images, n, w, next);
     let mut edges = graph(&heads, w);
     let mut owner = [FREE; MOST];
+    let mut words = [0u16; MOST];
+    let mut reads = [0u16; MOST];
+    let mut forward = tables::numbered();
+    let mut back = tables::numbered();
+    let mut writes = [0u16; MOST];
+    let mut switches = [0u8; 321];
     let mut t = 0;
     while t < shape.cycles {
-        let words = take_line(next, &mut heads, &mut edges, &mut owner, w);
-        packing::put_line(file, shape, t, packing::plan_of(images, &words, w));
+        take_line(next, &mut heads, &mut edges, &mut owner, &mut words, w);
+        packing::plan_line(
+            images,
+            &words,
+            w,
+            &mut reads,
+            &mut forward,
+            &mut back,
+            &mut writes,
+        );
+        packing::put_line(
+            file,
+            shape,
+            t,
+            &reads,
+            &forward,
+            &back,
+            &writes,
+            &mut switches,
+        );
         t += 1;
     }
     packing::put_filling(file, shape);

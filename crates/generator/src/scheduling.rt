@@ -79,38 +79,40 @@ fn take_word(
     word
 }
 
-// Takes a word for each port, where every port has an owner.
+// Takes a word for each port, where every port has an owner: that of port k is put at k.
 fn take_words(
     next: &[u16],
     heads: &mut [u16; HEADS],
     edges: &mut [u64; MOST],
     owner: &mut [u8; MOST],
+    words: &mut [u16; MOST],
     w: usize,
-) -> [u16; MOST]
+)
     requires { ⌜ Takeable (now next) (now heads) (now edges) (now owner) w ⌝ }
-    ensures { λ r. ⌜ Takes (now (next .entry)) (now (heads .entry)) (now (edges .entry)) (now (owner .entry)) w r (now (heads .exit)) (now (edges .exit)) (now (owner .exit)) ⌝ }
+    requires { ⌜ length (now words) ≡ 64 ⌝ }
+    ensures { λ _. ⌜ Takes (now (next .entry)) (now (heads .entry)) (now (edges .entry)) (now (owner .entry)) w (now (words .exit)) (now (heads .exit)) (now (edges .exit)) (now (owner .exit)) ⌝ }
 {
-    let mut words = [NONE; MOST];
     let mut k = 0;
     while k < w {
         words[k] = take_word(next, heads, edges, owner, k);
         k += 1;
     }
-    words
 }
 
-// Takes the next line: the word of port k is at k. Banks and ports all have one word left for each line left, so no bank is stuck.
+// Takes the next line: the word of port k is put at k. Banks and ports all have one word left for each line left, so no bank is stuck.
 pub fn take_line(
     next: &[u16],
     heads: &mut [u16; HEADS],
     edges: &mut [u64; MOST],
     owner: &mut [u8; MOST],
+    words: &mut [u16; MOST],
     w: usize,
-) -> [u16; MOST]
+)
     requires { ⌜ ((n : ℕ) × (p : ℕ → ℕ) × (reads : ℕ → ℕ → ℕ) × (t : ℕ) × Due n w p reads t (now next) (now heads) (now edges) (now owner)) ⌝ }
-    ensures { λ r. ⌜ ((n : ℕ) (p : ℕ → ℕ) (reads : ℕ → ℕ → ℕ) (t : ℕ) → Due n w p reads t (now (next .entry)) (now (heads .entry)) (now (edges .entry)) (now (owner .entry))
-        → Took n w p reads t r (now (heads .exit)) (now (edges .exit)) (now (owner .exit))) ⌝ }
+    requires { ⌜ length (now words) ≡ 64 ⌝ }
+    ensures { λ _. ⌜ ((n : ℕ) (p : ℕ → ℕ) (reads : ℕ → ℕ → ℕ) (t : ℕ) → Due n w p reads t (now (next .entry)) (now (heads .entry)) (now (edges .entry)) (now (owner .entry))
+        → Took n w p reads t (now (words .exit)) (now (heads .exit)) (now (edges .exit)) (now (owner .exit))) ⌝ }
 {
     complete(edges, w, owner);
-    take_words(next, heads, edges, owner, w)
+    take_words(next, heads, edges, owner, words, w);
 }

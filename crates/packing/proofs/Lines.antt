@@ -3,7 +3,7 @@ use Prim.Native.Nat.{ℕ, _+_, _*_, _^_, _<_, _≤_}
 use mathlib.Core.Path.{_≡_, refl, sym, ap, ap₂, subst, _∙_}
 use mathlib.Core.List.{List, _++_}
 use native.Mathlib.Omega.{arith}
-use lib.ListN.{length, getD, take, drop, replicate, length-append, length-drop, length-replicate}
+use lib.ListN.{length, getD, take, drop, length-append, length-drop}
 use lib.Seq.{length-take-le, getD-take, take-at}
 use Rattle.laws.specs.Permutation.{Permutes}
 use Rattle.laws.proofs.Permutations.{permutes-ext}
@@ -20,20 +20,20 @@ use Rattle.packing.proofs.Parts.{length-putFields}
 
 -- ---- the bits of a network, in the front of an array of 321
 
-pub room-long : (count : ℕ) → count ≤ 321 → length (take count (replicate {A = ℕ} 321 0)) ≡ count
-room-long count l = length-take-le count (replicate {A = ℕ} 321 0) (omega (arith, length-replicate {A = ℕ} 321 0))
+pub room-long : (room : List ℕ) (count : ℕ) → length room ≡ 321 → count ≤ 321 → length (take count room) ≡ count
+room-long room count e l = length-take-le count room (omega arith)
 
-pub switches-set : (forward after : List ℕ) (count : ℕ) → count ≤ 321 → (d : ℕ) × Sized (length forward) count d
-    → ((d : ℕ) → Sized (length forward) (length (take count (replicate {A = ℕ} 321 0))) d → after ≡ setting d (λ i. getD forward i 0))
-    → (length (after ++ drop count (replicate {A = ℕ} 321 0)) ≡ 321)
-    × ((d : ℕ) → Sized (length forward) count d → take count (after ++ drop count (replicate {A = ℕ} 321 0)) ≡ setting d (λ i. getD forward i 0))
-switches-set forward after count few S h = (
-  simp (length-append, length-drop) (omega (arith, long, length-replicate {A = ℕ} 321 0)),
-  λ d T. take-at after (drop count (replicate {A = ℕ} 321 0)) count long ∙ h d (T .0, room-long count few ∙ T .1),
+pub switches-set : (forward after room : List ℕ) (count : ℕ) → length room ≡ 321 → count ≤ 321 → (d : ℕ) × Sized (length forward) count d
+    → ((d : ℕ) → Sized (length forward) (length (take count room)) d → after ≡ setting d (λ i. getD forward i 0))
+    → (length (after ++ drop count room) ≡ 321)
+    × ((d : ℕ) → Sized (length forward) count d → take count (after ++ drop count room) ≡ setting d (λ i. getD forward i 0))
+switches-set forward after room count e few S h = (
+  simp (length-append, length-drop) (omega (arith, long)),
+  λ d T. take-at after (drop count room) count long ∙ h d (T .0, room-long room count e few ∙ T .1),
 )
   where
     long : length after ≡ count
-    long = ap length (h (S .0) (S .1 .0, room-long count few ∙ S .1 .1)) ∙ length-setting (S .0) (λ i. getD forward i 0) ∙ sym (S .1 .1)
+    long = ap length (h (S .0) (S .1 .0, room-long room count e few ∙ S .1 .1)) ∙ length-setting (S .0) (λ i. getD forward i 0) ∙ sym (S .1 .1)
 
 -- ---- the numbers of a line
 

@@ -8,22 +8,29 @@ use lib.ListN.{length, getD, set, replicate, length-set, length-replicate}
 use lib.Seq.{getD-set-other}
 use Rattle.laws.specs.Permutation.{Injective}
 use Rattle.laws.proofs.Tabulates.{stored-turn}
-use Rattle.packing.specs.Packing.{Planned}
+use Rattle.packing.specs.Packing.{Blank, Planned}
 
--- before the first port
-pub planned-none : (w : ℕ) (p : ℕ → ℕ) (words : List ℕ) {forward back : List ℕ} → (length forward ≡ 64) × ((x : ℕ) → x < 64 → getD forward x 0 ≡ x)
-    → (length back ≡ 64) × ((x : ℕ) → x < 64 → getD back x 0 ≡ x) → Planned w p words 0 (replicate 64 0) forward back (replicate 64 0)
-planned-none w p words F B = record {
+-- arrays of zeros, and two in which each line goes straight through
+pub blank-numbered : (w : ℕ) {forward back : List ℕ} → (length forward ≡ 64) × ((x : ℕ) → x < 64 → getD forward x 0 ≡ x)
+    → (length back ≡ 64) × ((x : ℕ) → x < 64 → getD back x 0 ≡ x) → Blank w (replicate 64 0) forward back (replicate 64 0)
+blank-numbered w F B = record {
   reads-long = length-replicate {A = ℕ} 64 0;
   forward-long = F .0;
   back-long = B .0;
   writes-long = length-replicate {A = ℕ} 64 0;
+  ahead-spare = λ x m l. F .1 x l;
+  from-spare = λ x m l. B .1 x l;
+}
+
+-- before the first port
+pub planned-none : {w : ℕ} (p : ℕ → ℕ) (words : List ℕ) {reads forward back writes : List ℕ} → Blank w reads forward back writes
+    → Planned w p words 0 reads forward back writes
+planned-none p words B = record {
+  blank = B;
   read = λ k l. absurd (omega arith);
   ahead = λ k l. absurd (omega arith);
   from = λ k l. absurd (omega arith);
   written = λ k l. absurd (omega arith);
-  ahead-spare = λ x m l. F .1 x l;
-  from-spare = λ x m l. B .1 x l;
 }
 
 -- one more port
@@ -32,18 +39,23 @@ pub planned-more : {w m : ℕ} {p : ℕ → ℕ} {words reads forward back write
     → Planned w p words (m + 1) (set reads (getD words m 0 % w) (getD words m 0 / w)) (set forward (getD words m 0 % w) m)
     (set back m (getD words m 0 % w)) (set writes m (p (getD words m 0) / w))
 planned-more {w} {m} {p} {words} {reads} {forward} {back} {writes} P some few l inj = record {
-  reads-long = length-set reads b (getD words m 0 / w) ∙ P .reads-long;
-  forward-long = length-set forward b m ∙ P .forward-long;
-  back-long = length-set back m b ∙ P .back-long;
-  writes-long = length-set writes m (p (getD words m 0) / w) ∙ P .writes-long;
-  read = stored-turn reads bank (λ k. getD words k 0 / w) m (getD words m 0 / w) 0 (omega (arith, P .reads-long, below)) apart refl (P .read);
-  ahead = stored-turn forward bank (λ k. k) m m 0 (omega (arith, P .forward-long, below)) apart refl (P .ahead);
-  from = stored-turn back (λ k. k) bank m b 0 (omega (arith, P .back-long)) (λ k n e. omega arith) refl (P .from);
-  written = stored-turn writes (λ k. k) (λ k. p (getD words k 0) / w) m (p (getD words m 0) / w) 0 (omega (arith, P .writes-long)) (λ k n e. omega arith) refl (P .written);
-  ahead-spare = λ x n h. getD-set-other forward b x m 0 (λ e. omega (arith, below)) ∙ P .ahead-spare x n h;
-  from-spare = λ x n h. getD-set-other back m x b 0 (λ e. omega arith) ∙ P .from-spare x n h;
+  blank = record {
+    reads-long = length-set reads b (getD words m 0 / w) ∙ B .reads-long;
+    forward-long = length-set forward b m ∙ B .forward-long;
+    back-long = length-set back m b ∙ B .back-long;
+    writes-long = length-set writes m (p (getD words m 0) / w) ∙ B .writes-long;
+    ahead-spare = λ x n h. getD-set-other forward b x m 0 (λ e. omega (arith, below)) ∙ B .ahead-spare x n h;
+    from-spare = λ x n h. getD-set-other back m x b 0 (λ e. omega arith) ∙ B .from-spare x n h;
+  };
+  read = stored-turn reads bank (λ k. getD words k 0 / w) m (getD words m 0 / w) 0 (omega (arith, B .reads-long, below)) apart refl (P .read);
+  ahead = stored-turn forward bank (λ k. k) m m 0 (omega (arith, B .forward-long, below)) apart refl (P .ahead);
+  from = stored-turn back (λ k. k) bank m b 0 (omega (arith, B .back-long)) (λ k n e. omega arith) refl (P .from);
+  written = stored-turn writes (λ k. k) (λ k. p (getD words k 0) / w) m (p (getD words m 0) / w) 0 (omega (arith, B .writes-long)) (λ k n e. omega arith) refl (P .written);
 }
   where
+    B : Blank w reads forward back writes
+    B = P .blank
+
     bank : ℕ → ℕ
     bank k = getD words k 0 % w
 

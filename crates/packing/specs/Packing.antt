@@ -35,19 +35,23 @@ putLine n w file t reads forward writes =
 unfoldable pub putFilling : ℕ → ℕ → List ℕ → List ℕ
 putFilling n w file = putField file (lineAt n w (cycles n w)) (8 * fileLength n w - lineAt n w (cycles n w)) 0
 
--- the first m ports of a line whose word k leaves at port k, for the permutation p: what banks read, where the network carries them and
--- from where, and what the second memory writes. A line of the network that is no bank's goes straight through.
-pub record Planned (w : ℕ) (p : ℕ → ℕ) (words : List ℕ) (m : ℕ) (reads forward back writes : List ℕ) : Type 0 where
+-- the arrays of a line's plan: a line of the network that is no bank's goes straight through
+pub record Blank (w : ℕ) (reads forward back writes : List ℕ) : Type 0 where
   pub reads-long : length reads ≡ 64
   pub forward-long : length forward ≡ 64
   pub back-long : length back ≡ 64
   pub writes-long : length writes ≡ 64
+  pub ahead-spare : (x : ℕ) → w ≤ x → x < 64 → getD forward x 0 ≡ x
+  pub from-spare : (x : ℕ) → w ≤ x → x < 64 → getD back x 0 ≡ x
+
+-- the first m ports of a line whose word k leaves at port k, for the permutation p: what banks read, where the network carries them and
+-- from where, and what the second memory writes
+pub record Planned (w : ℕ) (p : ℕ → ℕ) (words : List ℕ) (m : ℕ) (reads forward back writes : List ℕ) : Type 0 where
+  pub blank : Blank w reads forward back writes
   pub read : (k : ℕ) → k < m → getD reads (getD words k 0 % w) 0 ≡ getD words k 0 / w
   pub ahead : (k : ℕ) → k < m → getD forward (getD words k 0 % w) 0 ≡ k
   pub from : (k : ℕ) → k < m → getD back k 0 ≡ getD words k 0 % w
   pub written : (k : ℕ) → k < m → getD writes k 0 ≡ p (getD words k 0) / w
-  pub ahead-spare : (x : ℕ) → w ≤ x → x < 64 → getD forward x 0 ≡ x
-  pub from-spare : (x : ℕ) → w ≤ x → x < 64 → getD back x 0 ≡ x
 
 -- a line that can be put: addresses below c, and a permutation of the network's lines with its inverse
 pub record Ready (n w : ℕ) (reads forward back writes : List ℕ) : Type 0 where

@@ -8,19 +8,8 @@ ghost use Rattle.network.specs.Steps.{Inverses};
 ghost use Rattle.network.specs.Calls.{Sized};
 ghost use Rattle.tables.specs.Terms.{Dims, cycles, fileLength};
 ghost use Rattle.tables.specs.Format.{shapeOf};
-ghost use Rattle.packing.specs.Packing.{numberOf, putFields, putHeader, putLine, putFilling, Planned, Ready};
+ghost use Rattle.packing.specs.Packing.{numberOf, putFields, putHeader, putLine, putFilling, Blank, Planned, Ready};
 use tables::Shape;
-
-// What one line of a set is to do.
-pub struct Plan {
-    // The address that each bank of the first memory reads.
-    pub reads: [u16; 64],
-    // The line on which each line of the network leaves, and the other way round.
-    pub forward: [u8; 64],
-    pub back: [u8; 64],
-    // The address that each bank of the second memory writes.
-    pub writes: [u16; 64],
-}
 
 // The first `count` values in fields of `width` bits from bit `at` on.
 fn put_addresses(file: &mut [u8], at: usize, width: usize, values: &[u16], count: usize)
@@ -87,16 +76,23 @@ pub fn put_filling(file: &mut [u8], shape: Shape)
     bits::put_field(file, end, 8 * tables::file_length(shape) - end, 0);
 }
 
-// The line in which the word of port k is `words[k]`.
-pub fn plan_of(images: &[u16], words: &[u16], w: usize) -> Plan
-    requires { ⌜ (0 < w) × (w ≤ 64) × (w ≤ length (now words)) × Injective w (λ k. getD (now words) k 0 % w) ⌝ }
-    requires { ⌜ ((k : ℕ) → k < w → getD (now words) k 0 < length (now images)) ⌝ }
-    ensures { λ r. ⌜ Planned w (λ i. getD (now (images .entry)) i 0) (now (words .entry)) w (r .reads) (r .forward) (r .back) (r .writes) ⌝ }
+// Plans the line in which the word of port k is `words[k]`: the address that each bank of the first memory reads, the line on which each line
+// of the network leaves and the other way round, and the address that each bank of the second memory writes. The arrays are lent, since
+// a line fills only their first w entries.
+pub fn plan_line(
+    images: &[u16],
+    words: &[u16; 64],
+    w: usize,
+    reads: &mut [u16; 64],
+    forward: &mut [u8; 64],
+    back: &mut [u8; 64],
+    writes: &mut [u16; 64],
+)
+    requires { ⌜ (0 < w) × (w ≤ 64) × (length (now words) ≡ 64) × Injective w (λ k. getD (now words) k 0 % w) ⌝ }
+    requires { ⌜ ((k : ℕ) → k < w → (getD (now words) k 0 < length (now images)) × (getD (now words) k 0 < 4096)) ⌝ }
+    requires { ⌜ Blank w (now reads) (now forward) (now back) (now writes) ⌝ }
+    ensures { λ _. ⌜ Planned w (λ i. getD (now (images .entry)) i 0) (now (words .entry)) w (now (reads .exit)) (now (forward .exit)) (now (back .exit)) (now (writes .exit)) ⌝ }
 {
-    let mut reads = [0u16; 64];
-    let mut forward = tables::numbered();
-    let mut back = tables::numbered();
-    let mut writes = [0u16; 64];
     let mut k = 0;
     while k < w {
         let word = words[k] as usize;
@@ -107,48 +103,48 @@ pub fn plan_of(images: &[u16], words: &[u16], w: usize) -> Plan
         writes[k] = (images[word] as usize / w) as u16;
         k += 1;
     }
-    Plan {
-        reads,
-        forward,
-        back,
-        writes,
-    }
 }
 
-// The `count` bits of the network that carries its lines as `forward` says.
-fn switches_of(forward: &[u8], back: &[u8], count: usize) -> [u8; 321]
+// Sets the first `count` bits to those of the network that carries its lines as `forward` says.
+fn set_switches(forward: &[u8], back: &[u8], switches: &mut [u8], count: usize)
     requires { ⌜ ((d : ℕ) × Sized (length (now forward)) count d) ⌝ }
-    requires { ⌜ (length (now forward) ≤ 64) × (count ≤ 321) × Inverses (now forward) (now back) ⌝ }
-    ensures { λ r. ⌜ (length r ≡ 321) × ((d : ℕ) → Sized (length (now (forward .entry))) count d → take count r ≡ setting d (λ i. getD (now (forward .entry)) i 0)) ⌝ }
+    requires { ⌜ (length (now forward) ≤ 64) × (count ≤ 321) × Inverses (now forward) (now back) × (length (now switches) ≡ 321) ⌝ }
+    ensures { λ _. ⌜ (length (now (switches .exit)) ≡ 321) × ((d : ℕ) → Sized (length (now (forward .entry))) count d → take count (now (switches .exit)) ≡ setting d (λ i. getD (now (forward .entry)) i 0)) ⌝ }
 {
-    let mut switches = [0u8; 321];
     network::set_bits(forward, back, &mut switches[..count]);
-    switches
 }
 
-// Line t.
-pub fn put_line(file: &mut [u8], shape: Shape, t: usize, line: Plan)
+// Line t. Its switch bits are set in `switches` before they are packed.
+pub fn put_line(
+    file: &mut [u8],
+    shape: Shape,
+    t: usize,
+    reads: &[u16],
+    forward: &[u8],
+    back: &[u8],
+    writes: &[u16],
+    switches: &mut [u8],
+)
     requires { ⌜ (Dims (shape .words) (shape .width)) × (shape ≡ shapeOf (shape .words) (shape .width)) × (t < cycles (shape .words) (shape .width)) ⌝ }
-    requires { ⌜ fileLength (shape .words) (shape .width) ≤ length (now file) ⌝ }
-    requires { ⌜ Ready (shape .words) (shape .width) (line .reads) (line .forward) (line .back) (line .writes) ⌝ }
-    ensures { λ _. ⌜ now (file .exit) ≡ putLine (shape .words) (shape .width) (now (file .entry)) t (line .reads) (line .forward) (line .writes) ⌝ }
+    requires { ⌜ (fileLength (shape .words) (shape .width) ≤ length (now file)) × (length (now switches) ≡ 321) ⌝ }
+    requires { ⌜ Ready (shape .words) (shape .width) (now reads) (now forward) (now back) (now writes) ⌝ }
+    ensures { λ _. ⌜ (now (file .exit) ≡ putLine (shape .words) (shape .width) (now (file .entry)) t (now (reads .entry)) (now (forward .entry)) (now (writes .entry))) × (length (now (switches .exit)) ≡ 321) ⌝ }
 {
     let at = shape.start + t * shape.stride;
     let row = shape.width * shape.address;
-    let forward = line.forward;
-    let back = line.back;
-    let switches = switches_of(
+    set_switches(
         &forward[..shape.lines],
         &back[..shape.lines],
+        switches,
         shape.switches,
     );
-    put_addresses(file, at, shape.address, &line.reads, shape.width);
+    put_addresses(file, at, shape.address, reads, shape.width);
     put_bits(file, at + row, &switches[..shape.switches]);
     put_addresses(
         file,
         at + row + shape.switches,
         shape.address,
-        &line.writes,
+        writes,
         shape.width,
     );
 }

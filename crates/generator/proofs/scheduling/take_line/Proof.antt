@@ -9,14 +9,14 @@ complete-requires c κs = search needs
 
 take-words-requires : tie.Need-take-words-requires
 take-words-requires c κs =
-    let s = c .before .before .before .before .before .before .before in
-    let C = c .before .before .before .complete in
-    let U = s .pre .4 in
-    due-takeable U (due-perfect U (C .result) (C .ensures)) (C .ensures .long)
+    let s = c .before .before .before .before .before .before .before .before in
+    let C = c .before .before .before .before .complete in
+    let U = s .pre .0 .4 in
+    (due-takeable U (due-perfect U (C .result) (C .ensures)) (C .ensures .long), s .pre .1)
 
 returns : tie.Need-returns
 returns c =
-    let C = c .before .before .before .before .complete in
+    let C = c .before .before .before .before .before .complete in
     λ n p reads t U. due-took U (due-perfect U (C .result) (C .ensures)) (c .take-words .ensures)
 
 pub take-line-spec : {M : Type 1} → statement M

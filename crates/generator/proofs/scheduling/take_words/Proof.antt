@@ -9,13 +9,13 @@ use Rattle.generator.proofs.scheduling.take_words.Statement.{statement}
 use Rattle.generator.proofs.scheduling.take_words.Tie as tie
 
 abbrev Inv-loop : tie.InvT-loop
-Inv-loop next heads₀ edges₀ owner₀ w words₀ k₀ heads edges owner words k = (k ≤ w) × Takes next heads₀ edges₀ owner₀ k words heads edges owner
+Inv-loop next heads₀ edges₀ owner₀ words₀ w k₀ heads edges owner words k = (k ≤ w) × Takes next heads₀ edges₀ owner₀ k words heads edges owner
 
 abbrev μ-loop : tie.MeasureT-loop
-μ-loop next heads₀ edges₀ owner₀ w words₀ k₀ heads edges owner words k = w - k
+μ-loop next heads₀ edges₀ owner₀ words₀ w k₀ heads edges owner words k = w - k
 
 loop-holds : tie.Need-loop-holds Inv-loop μ-loop
-loop-holds c = (omega arith, takes-none (c .before .pre) refl)
+loop-holds c = (omega arith, takes-none (c .before .pre .0) (c .before .pre .1))
 
 take-word-requires : tie.Need-take-word-requires Inv-loop μ-loop
 take-word-requires c κs =
@@ -23,13 +23,13 @@ take-word-requires c κs =
     let l = c .before .before .before .before .loop in
     let t = c .before .before .before .loop-test .taken in
     let T = l .inv .1 in
-    ((T .heads-long, T .edges-long, T .owner-long, omega (arith, s .pre .few)), (takes-owned (s .pre) t T, takes-along (s .pre) t T, takes-inside (s .pre) t T))
+    ((T .heads-long, T .edges-long, T .owner-long, omega (arith, s .pre .0 .few)), (takes-owned (s .pre .0) t T, takes-along (s .pre .0) t T, takes-inside (s .pre .0) t T))
 
 mul-words : tie.Need-mul-words Inv-loop μ-loop
 mul-words c = search needs
 
-array-write-words : tie.Need-array-write-words Inv-loop μ-loop
-array-write-words c = search needs
+element-write-words : tie.Need-element-write-words Inv-loop μ-loop
+element-write-words c = search needs
 
 add-k : tie.Need-add-k Inv-loop μ-loop
 add-k c = search needs
@@ -41,7 +41,7 @@ loop-again : tie.Need-loop-again Inv-loop μ-loop
 loop-again c =
     let s = c .before .before .before .before .before .before .before in
     let l = c .before .before .before .before .before .loop in
-    (omega arith, takes-more (s .pre) (c .before .before .before .before .loop-test .taken) (l .inv .1) (c .take-word .ensures))
+    (omega arith, takes-more (s .pre .0) (c .before .before .before .before .loop-test .taken) (l .inv .1) (c .take-word .ensures))
 
 returns : tie.Need-returns Inv-loop μ-loop
 returns c =
@@ -59,7 +59,7 @@ take-words-spec =
     loop-holds
     take-word-requires
     mul-words
-    array-write-words
+    element-write-words
     add-k
     loop-less
     loop-again
