@@ -1,16 +1,40 @@
 -- The chains, from the last word down: a new word goes before the head of its bank and port, which is the lowest of the later words of
 -- its kind, and becomes the head.
-use Prim.Native.Nat.{ℕ, _+_, _*_, _%_, _<_, _≤_}
-use mathlib.Core.Path.{_≡_, refl, sym, _∙_}
+use Prim.Native.Nat.{ℕ, _+_, _-_, _*_, _/_, _%_, _<_, _≤_}
+use mathlib.Core.Path.{_≡_, refl, sym, ap, _∙_}
 use mathlib.Core.List.{List}
 use native.Mathlib.Omega.{arith}
-use native.Mathlib.Decide.{ℕ-discrete}
-use native.Mathlib.Nat.{mod-lt}
+use native.Mathlib.Decide.{ℕ-discrete, decLt}
+use native.Mathlib.Nat.{mod-lt, mod-eq-of-lt, mod-self, div-add-mod', mul-add-mod-self-right}
 use lib.ListN.{length, getD, set, length-set, replicate, getD-replicate, length-replicate}
 use lib.Seq.{getD-set-same, getD-set-other}
 use Rattle.tables.specs.Terms.{Dims}
 use Rattle.generator.specs.Schedule.{headAt, Alike, Headed, Linked}
 use Rattle.generator.proofs.Heads.{head-here, head-cases}
+
+-- the remainder of the number before: one less, and from 0 the highest
+module _ {w bank : ℕ} (i : ℕ) (l : bank < w) (e : bank ≡ (i + 1) % w) where
+  next-mod : bank ≡ (i % w + 1) % w
+  next-mod =
+      let q : i + 1 ≡ i / w * w + (i % w + 1) = omega (arith, div-add-mod' i w) in
+      e ∙ ap (λ (z : ℕ). z % w) q ∙ mul-add-mod-self-right (i / w) w (i % w + 1)
+
+  mod-below : i % w < w
+  mod-below = mod-lt i (omega arith)
+
+  pub before-zero : bank ≡ 0 → w - 1 ≡ i % w
+  before-zero z = elim (decLt (i % w + 1) w) [
+    | yes h ↦ absurd (omega (arith, next-mod ∙ mod-eq-of-lt h))
+    | no h ↦ omega (arith, mod-below)
+  ]
+
+  pub before-other : (bank ≡ 0 → ⊥) → bank - 1 ≡ i % w
+  before-other ne = elim (decLt (i % w + 1) w) [
+    | yes h ↦ omega (arith, next-mod ∙ mod-eq-of-lt h)
+    | no h ↦
+        let q : i % w + 1 ≡ w = omega (arith, mod-below) in
+        absurd (ne (next-mod ∙ ap (λ (z : ℕ). z % w) q ∙ mod-self w))
+  ]
 
 -- the words from i on are chained
 pub record Chaining (n w : ℕ) (p : ℕ → ℕ) (lent : List ℕ) (i : ℕ) (next heads : List ℕ) : Type 0 where

@@ -25,16 +25,26 @@ pub fn image(images: &[u16], i: usize) -> usize
     images[i] as usize
 }
 
+// The bank of the word before a word of this bank. A remainder would tell it too, but at the cost of a division.
+fn bank_before(bank: usize, w: usize) -> usize
+    requires { ⌜ bank < w ⌝ }
+    ensures { λ r. ⌜ ((i : ℕ) → bank ≡ (i + 1) % w → r ≡ i % w) ⌝ }
+{
+    if bank == 0 { w - 1 } else { bank - 1 }
+}
+
 // Chains the words of each bank and port from the lowest up, in the first n words of `next`, and gives the lowest of each.
 pub fn chain(images: &[u16], n: usize, w: usize, next: &mut [u16]) -> [u16; HEADS]
     requires { ⌜ (Dims n w) × (n ≤ length (now images)) × (n ≤ length (now next)) ⌝ }
     ensures { λ r. ⌜ Linked n w (λ i. getD (now (images .entry)) i 0) (now (next .entry)) (now (next .exit)) r ⌝ }
 {
     let mut heads = [NONE; HEADS];
+    let mut bank = 0;
     let mut i = n;
     while 0 < i {
         i -= 1;
-        let place = i % w * MOST + image(images, i) % w;
+        bank = bank_before(bank, w);
+        let place = bank * MOST + image(images, i) % w;
         next[i] = heads[place];
         heads[place] = i as u16;
     }
