@@ -3,5 +3,6 @@
 pub mod Digits
 pub mod Fields
 pub mod Window
+pub mod Stores
 pub mod Weights
 pub mod Walking

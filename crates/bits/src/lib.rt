@@ -8,6 +8,7 @@ ghost use Rattle.bits.specs.Bits.{withDigits, field, putField};
 ghost use Rattle.bits.specs.Window.{windowOf, putWindow};
 
 mod reader;
+mod writer;
 
 pub use reader::Reader;
 pub use reader::Taken;
@@ -15,6 +16,10 @@ pub use reader::field_at;
 pub use reader::position;
 pub use reader::reader_at;
 pub use reader::take;
+pub use writer::Writer;
+pub use writer::finish;
+pub use writer::write;
+pub use writer::writer_at;
 
 // Byte `index`; 0 past the end.
 fn byte_at(bytes: &[u8], index: usize) -> u32

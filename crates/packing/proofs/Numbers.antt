@@ -7,10 +7,11 @@ use native.Mathlib.Nat.{add-suc, add-zero, pow-suc}
 use native.Mathlib.Numerals.{add-one}
 use native.Mathlib.Omega.{arith}
 use lib.ListN.{length, getD}
-use Rattle.bits.specs.Bits.{putBit, putField}
-use Rattle.bits.proofs.Fields.{length-putField}
+use Rattle.bits.specs.Bits.{Bytes, putBit, putField}
+use Rattle.bits.specs.Writing.{Open, placeOf, wholeOf}
+use Rattle.bits.specs.declared.writer.Writer.{Writer}
 use Rattle.packing.specs.Packing.{numberOf, putFields}
-use Rattle.packing.proofs.Parts.{Putting}
+use Rattle.packing.proofs.Parts.{Putting, long-written}
 
 -- the number that the first m bits write
 pub record Gathered (values : List ℕ) (from m number : ℕ) : Type 0 where
@@ -46,12 +47,20 @@ number-put file at values i (suc m) two =
     ∙ ap (λ (x : ℕ). putBit (putFields file at 1 values (i + m)) x (v % 2)) place)
 
 -- a field that holds m bits more
-pub putting-number : {file now after values : List ℕ} {at i number : ℕ} (m : ℕ) → Putting file at 1 values i now
+pub putting-number : {whole file after values : List ℕ} {pen next : Writer} {at i number : ℕ} (m : ℕ) → Putting whole at 1 values i file pen
     → ((j : ℕ) → j < length values → getD values j 0 < 2) → i + m ≤ length values → number ≡ numberOf values i m
-    → after ≡ putField now (at + i) m number → Putting file at 1 values (i + m) after
-putting-number {file} {now} {after} {values} {at} {i} {number} m P two fits e h = record {
+    → Open next × (placeOf next ≡ placeOf pen + m) × (wholeOf after next ≡ putField (wholeOf file pen) (placeOf pen) m number)
+    → Bytes after → Putting whole at 1 values (i + m) after next
+putting-number {whole} {file} {after} {values} {pen} {next} {at} {i} {number} m P two fits e W B = record {
+  opened = W .0;
+  place = omega (arith, W .1, P .place);
   put =
-      h ∙ ap₂ (λ (z : List ℕ) (x : ℕ). putField z (at + i) m x) (P .put) e
-      ∙ number-put file at values i m (λ j l. two (i + j) (omega arith));
-  long = ap length h ∙ length-putField now (at + i) m number ∙ P .long;
+      W .2 ∙ ap₂ (λ (z : List ℕ) (x : ℕ). putField z x m number) (P .put) place
+      ∙ ap (λ (v : ℕ). putField (putFields whole at 1 values i) (at + i) m v) e
+      ∙ number-put whole at values i m (λ j l. two (i + j) (omega arith));
+  long = long-written file after pen next _ _ _ (W .2) ∙ P .long;
+  known = B;
 }
+  where
+    place : placeOf pen ≡ at + i
+    place = omega (arith, P .place)

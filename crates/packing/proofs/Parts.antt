@@ -2,11 +2,13 @@
 use Prim.Native.Nat.{ℕ, zero, suc, _+_, _*_, _-_, _^_, _<_, _≤_}
 use mathlib.Core.Path.{_≡_, refl, sym, ap, ap₂, _∙_}
 use mathlib.Core.List.{List}
-use native.Mathlib.Nat.{suc-mul, mul-le-mul-right}
+use native.Mathlib.Nat.{add-mul, suc-mul, mul-le-mul-right}
 use native.Mathlib.Numerals.{add-one}
 use native.Mathlib.Omega.{arith}
 use lib.ListN.{length, getD}
-use Rattle.bits.specs.Bits.{putField}
+use Rattle.bits.specs.Bits.{Bytes, putField}
+use Rattle.bits.specs.Writing.{Open, placeOf, wholeOf}
+use Rattle.bits.specs.declared.writer.Writer.{Writer}
 use Rattle.bits.proofs.Fields.{length-putField}
 use Rattle.tables.specs.Terms.{Dims, cycles, fileLength}
 use Rattle.tables.specs.Format.{lineAt, shapeOf}
@@ -28,27 +30,46 @@ unfolding putFields
 length-putFields file at k values zero = refl
 length-putFields file at k values (suc m) = length-putField _ _ _ _ ∙ length-putFields file at k values m
 
-pub long-put : (file : List ℕ) (at k : ℕ) (values : List ℕ) (m : ℕ) {after : List ℕ} → after ≡ putFields file at k values m → length after ≡ length file
-long-put file at k values m h = ap length h ∙ length-putFields file at k values m
-
 -- field m of `count` ends where the last one does, or before
 pub field-within : (m count k : ℕ) → m < count → m * k + k ≤ count * k
 field-within m count k l = omega (arith, suc-mul m k, mul-le-mul-right {m = suc m} {n = count} k l)
 
--- a file into which the first m values were put
-pub record Putting (file : List ℕ) (at k : ℕ) (values : List ℕ) (m : ℕ) (now : List ℕ) : Type 0 where
-  pub put : now ≡ putFields file at k values m
-  pub long : length now ≡ length file
+-- the length of the file stays, whatever a writer holds
+pub long-written : (file after : List ℕ) (before behind : Writer) (at k v : ℕ) → wholeOf after behind ≡ putField (wholeOf file before) at k v
+    → length after ≡ length file
+long-written file after before behind at k v h =
+    sym (length-putField after _ _ _) ∙ ap length h ∙ length-putField (wholeOf file before) _ _ _ ∙ length-putField file _ _ _
 
-pub putting-none : (file : List ℕ) (at k : ℕ) (values : List ℕ) → Putting file at k values 0 file
-putting-none file at k values = record { put = sym (putFields-none file at k values); long = refl }
+-- a file into which the first m values were put, with what the writer holds
+pub record Putting (whole : List ℕ) (at k : ℕ) (values : List ℕ) (m : ℕ) (file : List ℕ) (pen : Writer) : Type 0 where
+  pub opened : Open pen
+  pub place : placeOf pen ≡ at + m * k
+  pub put : wholeOf file pen ≡ putFields whole at k values m
+  pub long : length file ≡ length whole
+  pub known : Bytes file
+
+pub putting-none : {file : List ℕ} {pen : Writer} (k : ℕ) (values : List ℕ) → Open pen → Bytes file
+    → Putting (wholeOf file pen) (placeOf pen) k values 0 file pen
+putting-none {file} {pen} k values O B = record {
+  opened = O;
+  place = omega arith;
+  put = sym (putFields-none (wholeOf file pen) (placeOf pen) k values);
+  long = sym (length-putField file _ _ _);
+  known = B;
+}
 
 -- one turn of a loop that puts the values
-pub putting-more : {file now after values : List ℕ} {at place k m : ℕ} → Putting file at k values m now → place ≡ at + m * k
-    → after ≡ putField now place k (getD values m 0) → Putting file at k values (m + 1) after
-putting-more {file} {now} {after} {values} {at} {place} {k} {m} P e h = record {
-  put = h ∙ ap₂ (λ (z : List ℕ) (x : ℕ). putField z x k (getD values m 0)) (P .put) e ∙ sym (putFields-more file at k values m);
-  long = ap length h ∙ length-putField now place k (getD values m 0) ∙ P .long;
+pub putting-more : {whole file after values : List ℕ} {pen next : Writer} {at k m : ℕ} → Putting whole at k values m file pen
+    → Open next × (placeOf next ≡ placeOf pen + k) × (wholeOf after next ≡ putField (wholeOf file pen) (placeOf pen) k (getD values m 0))
+    → Bytes after → Putting whole at k values (m + 1) after next
+putting-more {whole} {file} {after} {values} {pen} {next} {at} {k} {m} P W B = record {
+  opened = W .0;
+  place = omega (arith, W .1, P .place, add-mul m 1 k);
+  put =
+      W .2 ∙ ap₂ (λ (z : List ℕ) (x : ℕ). putField z x k (getD values m 0)) (P .put) (P .place)
+      ∙ sym (putFields-more whole at k values m);
+  long = long-written file after pen next _ _ _ (W .2) ∙ P .long;
+  known = B;
 }
 
 -- ---- the header and the filling

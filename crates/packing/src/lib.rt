@@ -6,22 +6,26 @@ ghost use Rattle.laws.specs.Permutation.{Injective};
 ghost use Rattle.network.specs.Setting.{setting};
 ghost use Rattle.network.specs.Steps.{Inverses};
 ghost use Rattle.network.specs.Calls.{Sized};
+ghost use Rattle.bits.specs.Writing.{Open, placeOf, wholeOf};
 ghost use Rattle.tables.specs.Terms.{Dims, cycles, fileLength};
 ghost use Rattle.tables.specs.Format.{shapeOf};
 ghost use Rattle.packing.specs.Packing.{numberOf, putFields, putHeader, putLine, putFilling, Blank, Planned, Ready};
+use bits::Writer;
 use tables::Shape;
 
-// The first `count` values in fields of `width` bits from bit `at` on.
-fn put_addresses(file: &mut [u8], at: usize, width: usize, values: &[u16], count: usize)
-    requires { ⌜ (width ≤ 16) × (count ≤ length (now values)) × (count ≤ 64) × (at + count * width ≤ 8 * length (now file)) × (at < 2 ^ 32) ⌝ }
-    requires { ⌜ ((i : ℕ) → i < count → getD (now values) i 0 < 2 ^ width) ⌝ }
-    ensures { λ _. ⌜ now (file .exit) ≡ putFields (now (file .entry)) at width (now (values .entry)) count ⌝ }
+// The first `count` values, in fields of `width` bits.
+fn put_addresses(file: &mut [u8], writer: Writer, width: usize, values: &[u16], count: usize) -> Writer
+    requires { ⌜ (width ≤ 16) × (count ≤ length (now values)) × ((i : ℕ) → i < count → getD (now values) i 0 < 2 ^ width) ⌝ }
+    requires { ⌜ Open writer × (placeOf writer + count * width ≤ 8 * length (now file)) ⌝ }
+    ensures { λ r. ⌜ Open r × (placeOf r ≡ placeOf writer + count * width) × (wholeOf (now (file .exit)) r ≡ putFields (wholeOf (now (file .entry)) writer) (placeOf writer) width (now (values .entry)) count) ⌝ }
 {
+    let mut pen = writer;
     let mut i = 0;
     while i < count {
-        bits::put_field(file, at + i * width, width, values[i]);
+        pen = bits::write(file, pen, width, values[i]);
         i += 1;
     }
+    pen
 }
 
 // The number that `count` bits write, from `values[from]` on, the first of them highest.
@@ -39,21 +43,20 @@ fn number_of(values: &[u8], from: usize, count: usize) -> u16
     number
 }
 
-// The bits from bit `at` on. A field takes 16 of them, since one field of 16 bits is cheaper than 16 fields of one bit.
-fn put_bits(file: &mut [u8], at: usize, values: &[u8])
-    requires { ⌜ (at + length (now values) ≤ 8 * length (now file)) × (at < 2 ^ 32) × (length (now values) ≤ 321) ⌝ }
-    requires { ⌜ ((i : ℕ) → i < length (now values) → getD (now values) i 0 < 2) ⌝ }
-    ensures { λ _. ⌜ now (file .exit) ≡ putFields (now (file .entry)) at 1 (now (values .entry)) (length (now (values .entry))) ⌝ }
+// The bits, 16 in a field, since one field of 16 bits is cheaper than 16 fields of one bit.
+fn put_bits(file: &mut [u8], writer: Writer, values: &[u8]) -> Writer
+    requires { ⌜ (length (now values) ≤ 321) × ((i : ℕ) → i < length (now values) → getD (now values) i 0 < 2) ⌝ }
+    requires { ⌜ Open writer × (placeOf writer + length (now values) ≤ 8 * length (now file)) ⌝ }
+    ensures { λ r. ⌜ Open r × (placeOf r ≡ placeOf writer + length (now (values .entry))) × (wholeOf (now (file .exit)) r ≡ putFields (wholeOf (now (file .entry)) writer) (placeOf writer) 1 (now (values .entry)) (length (now (values .entry)))) ⌝ }
 {
+    let mut pen = writer;
     let mut i = 0;
     while i + 16 <= values.len() {
-        bits::put_field(file, at + i, 16, number_of(values, i, 16));
+        pen = bits::write(file, pen, 16, number_of(values, i, 16));
         i += 16;
     }
     let rest = values.len() - i;
-    if 0 < rest {
-        bits::put_field(file, at + i, rest, number_of(values, i, rest));
-    }
+    bits::write(file, pen, rest, number_of(values, i, rest))
 }
 
 // The header.
@@ -130,21 +133,15 @@ pub fn put_line(
     requires { ⌜ Ready (shape .words) (shape .width) (now reads) (now forward) (now back) (now writes) ⌝ }
     ensures { λ _. ⌜ (now (file .exit) ≡ putLine (shape .words) (shape .width) (now (file .entry)) t (now (reads .entry)) (now (forward .entry)) (now (writes .entry))) × (length (now (switches .exit)) ≡ 321) ⌝ }
 {
-    let at = shape.start + t * shape.stride;
-    let row = shape.width * shape.address;
     set_switches(
         &forward[..shape.lines],
         &back[..shape.lines],
         switches,
         shape.switches,
     );
-    put_addresses(file, at, shape.address, reads, shape.width);
-    put_bits(file, at + row, &switches[..shape.switches]);
-    put_addresses(
-        file,
-        at + row + shape.switches,
-        shape.address,
-        writes,
-        shape.width,
-    );
+    let start = bits::writer_at(file, shape.start + t * shape.stride);
+    let read = put_addresses(file, start, shape.address, reads, shape.width);
+    let set = put_bits(file, read, &switches[..shape.switches]);
+    let written = put_addresses(file, set, shape.address, writes, shape.width);
+    bits::finish(file, written);
 }
