@@ -16,7 +16,6 @@ use Rattle.tables.specs.Format.{lineAt, shapeOf}
 use Rattle.tables.specs.declared.Shape.{Shape}
 use Rattle.tables.proofs.Dims.{cycles-reached, lines-few, lineAt-order, fileLength-reaches}
 use Rattle.packing.specs.Packing.{putFields, putLine, Ready}
-use Rattle.packing.proofs.Parts.{length-putFields}
 
 -- ---- the bits of a network, in the front of an array of 321
 

@@ -1,7 +1,7 @@
 -- Bits that are put as one field. The number that bits write grows by one bit at its low end, as a field does; so to put it is to put its
 -- bits one behind the other.
 use Prim.Native.Nat.{ℕ, zero, suc, _+_, _*_, _/_, _%_, _^_, _<_, _≤_}
-use mathlib.Core.Path.{_≡_, refl, sym, ap, ap₂, _∙_}
+use mathlib.Core.Path.{_≡_, refl, ap, ap₂, _∙_}
 use mathlib.Core.List.{List}
 use native.Mathlib.Nat.{add-suc, add-zero, pow-suc}
 use native.Mathlib.Numerals.{add-one}

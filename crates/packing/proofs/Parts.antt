@@ -1,5 +1,5 @@
--- Fields that are put one behind the other: the length stays, and one more field is one more put.
-use Prim.Native.Nat.{ℕ, zero, suc, _+_, _*_, _-_, _^_, _<_, _≤_}
+-- Fields that are put one behind the other, by a writer that holds bits back: one more field is one more put, and the length stays.
+use Prim.Native.Nat.{ℕ, suc, _+_, _*_, _-_, _^_, _<_, _≤_}
 use mathlib.Core.Path.{_≡_, refl, sym, ap, ap₂, _∙_}
 use mathlib.Core.List.{List}
 use native.Mathlib.Nat.{add-mul, suc-mul, mul-le-mul-right}
@@ -24,11 +24,6 @@ pub putFields-more : (file : List ℕ) (at k : ℕ) (values : List ℕ) (m : ℕ
     → putFields file at k values (m + 1) ≡ putField (putFields file at k values m) (at + m * k) k (getD values m 0)
 unfolding putFields
 putFields-more file at k values m = rw add-one
-
-pub length-putFields : (file : List ℕ) (at k : ℕ) (values : List ℕ) (m : ℕ) → length (putFields file at k values m) ≡ length file
-unfolding putFields
-length-putFields file at k values zero = refl
-length-putFields file at k values (suc m) = length-putField _ _ _ _ ∙ length-putFields file at k values m
 
 -- field m of `count` ends where the last one does, or before
 pub field-within : (m count k : ℕ) → m < count → m * k + k ≤ count * k

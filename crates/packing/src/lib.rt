@@ -14,7 +14,13 @@ use bits::Writer;
 use tables::Shape;
 
 // The first `count` values, in fields of `width` bits.
-fn put_addresses(file: &mut [u8], writer: Writer, width: usize, values: &[u16], count: usize) -> Writer
+fn put_addresses(
+    file: &mut [u8],
+    writer: Writer,
+    width: usize,
+    values: &[u16],
+    count: usize,
+) -> Writer
     requires { ⌜ (width ≤ 16) × (count ≤ length (now values)) × ((i : ℕ) → i < count → getD (now values) i 0 < 2 ^ width) ⌝ }
     requires { ⌜ Open writer × (placeOf writer + count * width ≤ 8 * length (now file)) ⌝ }
     ensures { λ r. ⌜ Open r × (placeOf r ≡ placeOf writer + count * width) × (wholeOf (now (file .exit)) r ≡ putFields (wholeOf (now (file .entry)) writer) (placeOf writer) width (now (values .entry)) count) ⌝ }

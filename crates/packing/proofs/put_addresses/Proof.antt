@@ -1,10 +1,9 @@
 -- `put_addresses` meets its contract: turn i puts field i.
-use Prim.Native.Nat.{ℕ, _+_, _*_, _-_, _≤_}
+use Prim.Native.Nat.{_-_, _≤_}
 use mathlib.Core.Path.{_≡_, _∙_}
 use native.Mathlib.Omega.{arith}
 use lib.ListN.{length}
-use Rattle.bits.specs.Bits.{Bytes}
-use Rattle.bits.specs.Writing.{Open, placeOf, wholeOf}
+use Rattle.bits.specs.Writing.{placeOf, wholeOf}
 use Rattle.bits.proofs.Fields.{length-putField}
 use Rattle.packing.proofs.Parts.{Putting, putting-none, putting-more, field-within}
 use borrow.Author.Needs.{needs}

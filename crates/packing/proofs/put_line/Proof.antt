@@ -118,10 +118,10 @@ returns c =
     let behind : placeOf (c .before .before .before .before .before .before .before .before .before .before .before .before .before .before .before .put-addresses .result) ≡ s .args .shape .start + s .args .t * s .args .shape .stride + s .args .shape .width * s .args .shape .address = omega (arith, start .1, read .1) in
     let last : placeOf (c .before .before .before .before .before .before .before .before .before .before .put-bits .result) ≡ s .args .shape .start + s .args .t * s .args .shape .stride + s .args .shape .width * s .args .shape .address + s .args .shape .switches = omega (arith, behind, set .1, long) in (
       c .before .before .finish .ensures
-      ∙ line-put _ _ (s .args .t) _ _ _ _ _ _ _ _ (s .pre .0 .1) (bits-known (s .pre .0 .0) (placed-known s) (s .pre .1 .1) (call .ensures .1)) long
-      (read .2 ∙ ap₂ (λ (z : List ℕ) (x : ℕ). putFields z x (s .args .shape .address) (s .args .reads .now) (s .args .shape .width)) (start .2) (start .1))
-      (set .2 ∙ ap (λ (x : ℕ). putFields (wholeOf (c .before .before .before .before .before .before .before .before .before .before .before .before .before .before .before .put-addresses .last .0) (c .before .before .before .before .before .before .before .before .before .before .before .before .before .before .before .put-addresses .result)) x 1 (take (s .args .shape .switches) (call .last .1 .1 .0)) (length (take (s .args .shape .switches) (call .last .1 .1 .0)))) behind)
-      (written .2 ∙ ap (λ (x : ℕ). putFields (wholeOf (c .before .before .before .before .before .before .before .before .before .before .put-bits .last .0) (c .before .before .before .before .before .before .before .before .before .before .put-bits .result)) x (s .args .shape .address) (s .args .writes .now) (s .args .shape .width)) last),
+          ∙ line-put _ _ (s .args .t) _ _ _ _ _ _ _ _ (s .pre .0 .1) (bits-known (s .pre .0 .0) (placed-known s) (s .pre .1 .1) (call .ensures .1)) long
+          (read .2 ∙ ap₂ (λ (z : List ℕ) (x : ℕ). putFields z x (s .args .shape .address) (s .args .reads .now) (s .args .shape .width)) (start .2) (start .1))
+          (set .2 ∙ ap (λ (x : ℕ). putFields (wholeOf (c .before .before .before .before .before .before .before .before .before .before .before .before .before .before .before .put-addresses .last .0) (c .before .before .before .before .before .before .before .before .before .before .before .before .before .before .before .put-addresses .result)) x 1 (take (s .args .shape .switches) (call .last .1 .1 .0)) (length (take (s .args .shape .switches) (call .last .1 .1 .0)))) behind)
+          (written .2 ∙ ap (λ (x : ℕ). putFields (wholeOf (c .before .before .before .before .before .before .before .before .before .before .put-bits .last .0) (c .before .before .before .before .before .before .before .before .before .before .put-bits .result)) x (s .args .shape .address) (s .args .writes .now) (s .args .shape .width)) last),
       call .ensures .0,
     )
 

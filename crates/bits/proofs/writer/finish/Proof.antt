@@ -1,10 +1,10 @@
 -- `bits::finish` meets its contract: what is held is put as one field, and where nothing is held nothing is left to put.
 -- Assumes nothing.
 use borrow.Author.Needs.{needs}
-use Prim.Native.Nat.{ℕ, _*_, _^_, _<_}
+use Prim.Native.Nat.{ℕ, _*_}
 use denote.Ref.{now}
 use lib.Pow.{pow-mono}
-use mathlib.Core.Path.{_≡_, refl, sym, ap}
+use mathlib.Core.Path.{_≡_, sym, ap}
 use native.Mathlib.Omega.{arith}
 use Rattle.bits.specs.Bits.{putField}
 use Rattle.bits.proofs.writer.finish.Statement.{statement}

@@ -1,9 +1,9 @@
 -- `bits::write` meets its contract: what is held and the value behind it are one number, whose full bytes are stored from the first on.
 -- Assumes nothing.
-use Prim.Native.Nat.{ℕ, _+_, _-_, _*_, _%_, _^_, _<_, _≤_}
+use Prim.Native.Nat.{_+_, _-_, _*_, _%_, _^_}
 use borrow.Author.Needs.{needs}
 use lib.Pow.{pow-pos}
-use mathlib.Core.Path.{_≡_, refl, sym, ap, _∙_}
+use mathlib.Core.Path.{_≡_, refl, sym, _∙_}
 use native.Mathlib.Omega.{arith}
 use Rattle.bits.specs.Bits.{putField}
 use Rattle.bits.proofs.Digits.{one-shl}
@@ -92,7 +92,7 @@ returns c =
       record { few = omega arith; small = S .small },
       omega (arith, S .place),
       S .put
-      ∙ rw (exact s) (putField-append (s .args .bytes .now) (8 * W .first) (W .held) (s .args .width) (W .window) (s .args .value) (s .pre .0 .1)),
+          ∙ rw (exact s) (putField-append (s .args .bytes .now) (8 * W .first) (W .held) (s .args .width) (W .window) (s .args .value) (s .pre .0 .1)),
     )
 
 pub write-spec : {M : Type 1} → statement M

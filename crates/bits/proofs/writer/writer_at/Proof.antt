@@ -2,11 +2,11 @@
 -- Assumes nothing.
 use borrow.Author.Needs.{needs}
 use denote.Ref.{now}
-use Prim.Native.Nat.{ℕ, _+_, _-_, _*_, _/_, _%_, _^_, _<_}
+use Prim.Native.Nat.{ℕ, _+_, _-_, _/_, _%_}
 use lib.Pow.{shr-lt}
-use mathlib.Core.Path.{_≡_, refl, ap, _∙_}
+use mathlib.Core.Path.{_≡_}
 use native.Mathlib.Omega.{arith}
-use Rattle.bits.specs.Bits.{Bytes, putField}
+use Rattle.bits.specs.Bits.{Bytes}
 use Rattle.bits.proofs.Stores.{putField-same}
 use Rattle.bits.proofs.writer.writer_at.Statement.{statement}
 use Rattle.bits.proofs.writer.writer_at.Tie as tie

@@ -1,22 +1,21 @@
 -- `generating::make` meets its contract: before line t the bits up to it are those of the set, for the read lines so far, and the state of
 -- the schedule is that after t lines. The arrays that a line is planned in stay as long as they are, and straight beside the banks.
 use Prim.Native.Nat.{ℕ, _+_, _-_, _^_, _<_, _≤_}
-use mathlib.Core.Path.{_≡_, refl, sym, ap, subst, _∙_}
-use mathlib.Core.List.{List}
+use mathlib.Core.Path.{_≡_, refl, sym, _∙_}
 use native.Mathlib.Omega.{arith}
 use borrow.Author.Needs.{needs}
 use lib.ListN.{length, getD, replicate, getD-replicate}
 use Rattle.bits.specs.Bits.{Bytes}
-use Rattle.tables.specs.Terms.{cycles, fileLength}
+use Rattle.tables.specs.Terms.{cycles}
 use Rattle.tables.specs.Format.{lineAt}
 use Rattle.tables.specs.Generated.{setBits}
-use Rattle.tables.proofs.Dims.{lineAt-zero, fileLength-header, cycles-few}
+use Rattle.tables.proofs.Dims.{fileLength-header, cycles-few}
 use Rattle.tables.proofs.Opens.{shape-own, shape-fileLength}
 use Rattle.tables.proofs.Written.{Written}
-use Rattle.packing.specs.Packing.{Blank, putHeader, putLine, putFilling}
+use Rattle.packing.specs.Packing.{Blank}
 use Rattle.packing.proofs.Plans.{blank-numbered}
 use Rattle.packing.proofs.Putting.{header-written}
-use Rattle.generator.specs.Schedule.{Scheduled, Due, Took, addressOf, extended}
+use Rattle.generator.specs.Schedule.{Scheduled, Due, Took}
 use Rattle.generator.proofs.Drawings.{scheduled-start}
 use Rattle.generator.proofs.Making.{making-more, plan-ready, made, begun, over, lines-begin, shape-cycles, shape-words, shape-width}
 use Rattle.generator.proofs.generating.make.Statement.{statement}

@@ -1,6 +1,6 @@
 -- `take_words` meets its contract: each turn takes the word of one port more.
 use Prim.Native.Nat.{_-_, _≤_}
-use mathlib.Core.Path.{_≡_, refl}
+use mathlib.Core.Path.{_≡_}
 use native.Mathlib.Omega.{arith}
 use Rattle.generator.specs.Schedule.{Takes}
 use Rattle.generator.proofs.Advances.{takes-none, takes-more, takes-owned, takes-along, takes-inside}
