@@ -212,6 +212,8 @@ struct Schedule<'a> {
     chain: &'a mut [u16],
     /// The ports to which each bank has words left.
     ports: [u64; MAX_WIDTH],
+    /// The ports that have no bank.
+    free: u64,
     bank_of: [u8; MAX_WIDTH],
     port_of: [u8; MAX_WIDTH],
 }
@@ -226,7 +228,8 @@ impl<'a> Schedule<'a> {
             head: [NONE; MAX_WIDTH * MAX_WIDTH],
             chain,
             ports: [0; MAX_WIDTH],
-            bank_of: [FREE; MAX_WIDTH],
+            free: u64::MAX,
+            bank_of: [0; MAX_WIDTH],
             port_of: [FREE; MAX_WIDTH],
         };
         let mut bank = 0;
@@ -241,8 +244,20 @@ impl<'a> Schedule<'a> {
         schedule
     }
 
-    /// Gives the bank a port, moving other banks where needed.
+    fn join(&mut self, bank: usize, port: usize) {
+        self.bank_of[port] = bank as u8;
+        self.port_of[bank] = port as u8;
+    }
+
+    /// Gives the bank a port: a free one where it has one, else that of a bank which finds another.
     fn augment(&mut self, bank: usize, unseen: &mut u64) -> bool {
+        let vacant = self.ports[bank] & self.free;
+        if vacant != 0 {
+            let port = vacant.trailing_zeros() as usize;
+            self.free &= !(1 << port);
+            self.join(bank, port);
+            return true;
+        }
         loop {
             let open = self.ports[bank] & *unseen;
             if open == 0 {
@@ -250,10 +265,8 @@ impl<'a> Schedule<'a> {
             }
             let port = open.trailing_zeros() as usize;
             *unseen &= !(1 << port);
-            let holder = self.bank_of[port];
-            if holder == FREE || self.augment(holder as usize, unseen) {
-                self.bank_of[port] = bank as u8;
-                self.port_of[bank] = port as u8;
+            if self.augment(self.bank_of[port] as usize, unseen) {
+                self.join(bank, port);
                 return true;
             }
         }
@@ -278,7 +291,7 @@ impl<'a> Schedule<'a> {
         if *head == NONE {
             self.ports[bank] &= !(1 << port);
             self.port_of[bank] = FREE;
-            self.bank_of[port] = FREE;
+            self.free |= 1 << port;
         }
         debug_assert_eq!(self.images[word] as usize % self.w, port);
         word
