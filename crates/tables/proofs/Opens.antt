@@ -15,7 +15,7 @@ use Rattle.bits.specs.Bits.{field}
 use Rattle.refusal.specs.declared.Refusal.the-variants.{Header}
 use Rattle.network.specs.Network.{bitCount}
 use Rattle.tables.specs.Terms.{Dims, logUp, cycles, addressBits, depth, switchBits, addressRow, lineBits, headerBits, fileLength}
-use Rattle.tables.specs.Format.{headerWords, headerWidth, headerZeros, lineAt, shapeOf, headerTest, lengthTest, openOf}
+use Rattle.tables.specs.Format.{headerWords, headerWidth, headerZeros, lineAt, shapeOf, limitTest, headerTest, lengthTest, openOf}
 use Rattle.tables.specs.declared.Shape.{Shape}
 use Rattle.tables.specs.declared.Opened.{Opened}
 use Rattle.tables.specs.declared.Opened.the-variants.{Refused}
@@ -102,12 +102,7 @@ module _ {n w : ℕ} {s : Shape} (D : Dims n w) (e : s ≡ shapeOf n w) where
 
 -- the tests of a file of three bytes or more, where its header says n, w and z
 abbrev pub readTest : ℕ → ℕ → ℕ → List ℕ → Opened
-readTest n w z file =
-    ifLt n 1 (Refused Header)
-    (ifLt 4096 n (Refused Header)
-    (ifLt w 1 (Refused Header)
-    (ifLt 64 w (Refused Header)
-    (ifEq (n % w) 0 (ifEq z 0 (lengthTest n w file) (Refused Header)) (Refused Header)))))
+readTest n w z file = limitTest n w z (lengthTest n w file)
 
 pub header-read : {n w z : ℕ} {r : Opened} (file : List ℕ) → n ≡ field file 0 13 → w ≡ field file 13 7 → z ≡ field file 20 4 → 3 ≤ length file
     → r ≡ readTest n w z file → r ≡ openOf file

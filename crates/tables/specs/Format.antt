@@ -53,14 +53,17 @@ shapeOf n w = record {
   stride = lineBits n w;
 }
 
--- next, where the header keeps the limits: n 1 to 4,096, w 1 to 64, w divides n, four zero bits
+-- next, where n, w and the four last bits keep the limits: n 1 to 4,096, w 1 to 64, w divides n, four zero bits
+abbrev pub limitTest : ℕ → ℕ → ℕ → Opened → Opened
+limitTest n w zeros next =
+    ifLt n 1 (Refused Header)
+    (ifLt 4096 n (Refused Header)
+    (ifLt w 1 (Refused Header)
+    (ifLt 64 w (Refused Header) (ifEq (n % w) 0 (ifEq zeros 0 next (Refused Header)) (Refused Header)))))
+
+-- the same of the numbers in the header
 unfoldable pub headerTest : List ℕ → Opened → Opened
-headerTest file next =
-    ifLt (headerWords file) 1 (Refused Header)
-    (ifLt 4096 (headerWords file) (Refused Header)
-    (ifLt (headerWidth file) 1 (Refused Header)
-    (ifLt 64 (headerWidth file) (Refused Header)
-    (ifEq (headerWords file % headerWidth file) 0 (ifEq (headerZeros file) 0 next (Refused Header)) (Refused Header)))))
+headerTest file next = limitTest (headerWords file) (headerWidth file) (headerZeros file) next
 
 -- the tests of a whole file for its n and w: its length, and the filling
 unfoldable pub lengthTest : ℕ → ℕ → List ℕ → Opened

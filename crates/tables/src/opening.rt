@@ -3,7 +3,12 @@ ghost use mathlib.Core.Path.{_≡_};
 ghost use Prim.Native.Nat.{_+_, _*_, _%_, _<_, _≤_};
 ghost use lib.ListN.{length};
 ghost use Rattle.tables.specs.Terms.{Dims, logUp, fileLength};
-ghost use Rattle.tables.specs.Format.{shapeOf, lengthTest, openOf};
+ghost use mathlib.Core.Bool.{true};
+ghost use Rattle.laws.specs.Choice.{choose};
+ghost use Rattle.refusal.specs.declared.Refusal.the-variants.{Header};
+ghost use Rattle.tables.specs.Format.{shapeOf, limitTest, openOf};
+ghost use Rattle.tables.specs.declared.Opened.{Opened};
+ghost use Rattle.tables.specs.declared.Opened.the-variants.{Refused};
 use crate::Opened;
 use crate::Shape;
 use refusal::Refusal;
@@ -60,11 +65,41 @@ pub fn file_length(shape: Shape) -> usize
     3 + (shape.cycles * shape.stride + 7) / 8
 }
 
-// The tests of a whole file for its n and w.
-fn check_length(file: &[u8], words: usize, width: usize) -> Opened
-    requires { ⌜ Dims words width ⌝ }
-    ensures { λ r. ⌜ r ≡ lengthTest words width (now (file .entry)) ⌝ }
+// Whether the numbers of a header keep the limits.
+fn in_limits(words: usize, width: usize, zeros: u16) -> bool
+    ensures { λ r. ⌜ (r ≡ true → Dims words width) × ((next : Opened) → choose r next (Refused Header) ≡ limitTest words width zeros next) ⌝ }
 {
+    if words < 1 {
+        return false;
+    }
+    if MOST_WORDS < words {
+        return false;
+    }
+    if width < 1 {
+        return false;
+    }
+    if MOST_WIDTH < width {
+        return false;
+    }
+    if words % width == 0 {
+        return zeros == 0;
+    }
+    false
+}
+
+// Whether a file has the form of a set, and its shape: the header, the length, the filling bits.
+pub fn open(file: &[u8]) -> Opened
+    ensures { λ r. ⌜ r ≡ openOf (now (file .entry)) ⌝ }
+{
+    if file.len() < 3 {
+        return Opened::Refused(Refusal::FileShort);
+    }
+    let words = bits::field_at(file, 0, 13) as usize;
+    let width = bits::field_at(file, 13, 7) as usize;
+    let zeros = bits::field_at(file, 20, 4);
+    if !in_limits(words, width, zeros) {
+        return Opened::Refused(Refusal::Header);
+    }
     let shape = shape_of(words, width);
     let length = file_length(shape);
     if file.len() < length {
@@ -78,35 +113,4 @@ fn check_length(file: &[u8], words: usize, width: usize) -> Opened
         return Opened::Set(shape);
     }
     Opened::Refused(Refusal::FileLong)
-}
-
-// Whether a file has the form of a set, and its shape.
-pub fn open(file: &[u8]) -> Opened
-    ensures { λ r. ⌜ r ≡ openOf (now (file .entry)) ⌝ }
-{
-    if file.len() < 3 {
-        return Opened::Refused(Refusal::FileShort);
-    }
-    let words = bits::field_at(file, 0, 13) as usize;
-    let width = bits::field_at(file, 13, 7) as usize;
-    let zeros = bits::field_at(file, 20, 4);
-    if words < 1 {
-        return Opened::Refused(Refusal::Header);
-    }
-    if MOST_WORDS < words {
-        return Opened::Refused(Refusal::Header);
-    }
-    if width < 1 {
-        return Opened::Refused(Refusal::Header);
-    }
-    if MOST_WIDTH < width {
-        return Opened::Refused(Refusal::Header);
-    }
-    if words % width == 0 {
-        if zeros == 0 {
-            return check_length(file, words, width);
-        }
-        return Opened::Refused(Refusal::Header);
-    }
-    Opened::Refused(Refusal::Header)
 }
