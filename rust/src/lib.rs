@@ -91,6 +91,7 @@ extern "C" {
     ) -> StepAnswer;
 }
 
+#[inline]
 fn value(answer: Answer) -> Result<usize, Refusal> {
     match answer.number {
         0 => Ok(answer.value),
@@ -102,6 +103,7 @@ fn value(answer: Answer) -> Result<usize, Refusal> {
 }
 
 /// Generates a table set; gives its length in bytes.
+#[inline]
 pub fn generate(
     n: usize,
     w: usize,
@@ -125,6 +127,7 @@ pub fn generate(
 }
 
 /// Reads a table set; gives n and w, beside the written images.
+#[inline]
 pub fn read(file: &[u8], images: &mut [u16], scratch: &[u16]) -> Result<(usize, usize), Refusal> {
     // SAFETY: each pointer comes from a slice of the length beside it.
     let answer = unsafe {
@@ -147,6 +150,7 @@ pub fn read(file: &[u8], images: &mut [u16], scratch: &[u16]) -> Result<(usize, 
 }
 
 /// Sets a network; gives the number of values written.
+#[inline]
 pub fn set(width: usize, images: &[u16], values: &mut [u8]) -> Result<usize, Refusal> {
     // SAFETY: each pointer comes from a slice of the length beside it.
     value(unsafe {
@@ -161,12 +165,14 @@ pub fn set(width: usize, images: &[u16], values: &mut [u8]) -> Result<usize, Ref
 }
 
 /// Follows a line through a network; gives the line on which it leaves.
+#[inline]
 pub fn follow(width: usize, values: &[u8], line: usize) -> Result<usize, Refusal> {
     // SAFETY: the pointer comes from a slice of the length beside it.
     value(unsafe { rughtena_follow(width, values.as_ptr(), values.len(), line) })
 }
 
 /// One step of the cycle machine; an accepted one moves the clock on, a refused one leaves it.
+#[inline]
 pub fn step(
     file: &[u8],
     clock: &mut Clock,

@@ -47,20 +47,20 @@ number-put file at values i (suc m) two =
     ∙ ap (λ (x : ℕ). putBit (putFields file at 1 values (i + m)) x (v % 2)) place)
 
 -- a field that holds m bits more
-pub putting-number : {whole file after values : List ℕ} {pen next : Writer} {at i number : ℕ} (m : ℕ) → Putting whole at 1 values i file pen
+pub putting-number : {whole file after values : List ℕ} {current next : Writer} {at i number : ℕ} (m : ℕ) → Putting whole at 1 values i file current
     → ((j : ℕ) → j < length values → getD values j 0 < 2) → i + m ≤ length values → number ≡ numberOf values i m
-    → Open next × (placeOf next ≡ placeOf pen + m) × (wholeOf after next ≡ putField (wholeOf file pen) (placeOf pen) m number)
+    → Open next × (placeOf next ≡ placeOf current + m) × (wholeOf after next ≡ putField (wholeOf file current) (placeOf current) m number)
     → Bytes after → Putting whole at 1 values (i + m) after next
-putting-number {whole} {file} {after} {values} {pen} {next} {at} {i} {number} m P two fits e W B = record {
+putting-number {whole} {file} {after} {values} {current} {next} {at} {i} {number} m P two fits e W B = record {
   opened = W .0;
   place = omega (arith, W .1, P .place);
   put =
       W .2 ∙ ap₂ (λ (z : List ℕ) (x : ℕ). putField z x m number) (P .put) place
       ∙ ap (λ (v : ℕ). putField (putFields whole at 1 values i) (at + i) m v) e
       ∙ number-put whole at values i m (λ j l. two (i + j) (omega arith));
-  long = long-written file after pen next _ _ _ (W .2) ∙ P .long;
+  long = long-written file after current next _ _ _ (W .2) ∙ P .long;
   known = B;
 }
   where
-    place : placeOf pen ≡ at + i
+    place : placeOf current ≡ at + i
     place = omega (arith, P .place)

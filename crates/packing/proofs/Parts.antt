@@ -36,34 +36,34 @@ long-written file after before behind at k v h =
     sym (length-putField after _ _ _) ∙ ap length h ∙ length-putField (wholeOf file before) _ _ _ ∙ length-putField file _ _ _
 
 -- a file into which the first m values were put, with what the writer holds
-pub record Putting (whole : List ℕ) (at k : ℕ) (values : List ℕ) (m : ℕ) (file : List ℕ) (pen : Writer) : Type 0 where
-  pub opened : Open pen
-  pub place : placeOf pen ≡ at + m * k
-  pub put : wholeOf file pen ≡ putFields whole at k values m
+pub record Putting (whole : List ℕ) (at k : ℕ) (values : List ℕ) (m : ℕ) (file : List ℕ) (current : Writer) : Type 0 where
+  pub opened : Open current
+  pub place : placeOf current ≡ at + m * k
+  pub put : wholeOf file current ≡ putFields whole at k values m
   pub long : length file ≡ length whole
   pub known : Bytes file
 
-pub putting-none : {file : List ℕ} {pen : Writer} (k : ℕ) (values : List ℕ) → Open pen → Bytes file
-    → Putting (wholeOf file pen) (placeOf pen) k values 0 file pen
-putting-none {file} {pen} k values O B = record {
+pub putting-none : {file : List ℕ} {current : Writer} (k : ℕ) (values : List ℕ) → Open current → Bytes file
+    → Putting (wholeOf file current) (placeOf current) k values 0 file current
+putting-none {file} {current} k values O B = record {
   opened = O;
   place = omega arith;
-  put = sym (putFields-none (wholeOf file pen) (placeOf pen) k values);
+  put = sym (putFields-none (wholeOf file current) (placeOf current) k values);
   long = sym (length-putField file _ _ _);
   known = B;
 }
 
 -- one turn of a loop that puts the values
-pub putting-more : {whole file after values : List ℕ} {pen next : Writer} {at k m : ℕ} → Putting whole at k values m file pen
-    → Open next × (placeOf next ≡ placeOf pen + k) × (wholeOf after next ≡ putField (wholeOf file pen) (placeOf pen) k (getD values m 0))
+pub putting-more : {whole file after values : List ℕ} {current next : Writer} {at k m : ℕ} → Putting whole at k values m file current
+    → Open next × (placeOf next ≡ placeOf current + k) × (wholeOf after next ≡ putField (wholeOf file current) (placeOf current) k (getD values m 0))
     → Bytes after → Putting whole at k values (m + 1) after next
-putting-more {whole} {file} {after} {values} {pen} {next} {at} {k} {m} P W B = record {
+putting-more {whole} {file} {after} {values} {current} {next} {at} {k} {m} P W B = record {
   opened = W .0;
   place = omega (arith, W .1, P .place, add-mul m 1 k);
   put =
       W .2 ∙ ap₂ (λ (z : List ℕ) (x : ℕ). putField z x k (getD values m 0)) (P .put) (P .place)
       ∙ sym (putFields-more whole at k values m);
-  long = long-written file after pen next _ _ _ (W .2) ∙ P .long;
+  long = long-written file after current next _ _ _ (W .2) ∙ P .long;
   known = B;
 }
 

@@ -25,13 +25,13 @@ fn put_addresses(
     requires { ⌜ Open writer × (placeOf writer + count * width ≤ 8 * length (now file)) ⌝ }
     ensures { λ r. ⌜ Open r × (placeOf r ≡ placeOf writer + count * width) × (wholeOf (now (file .exit)) r ≡ putFields (wholeOf (now (file .entry)) writer) (placeOf writer) width (now (values .entry)) count) ⌝ }
 {
-    let mut pen = writer;
+    let mut current = writer;
     let mut i = 0;
     while i < count {
-        pen = bits::write(file, pen, width, values[i]);
+        current = bits::write(file, current, width, values[i]);
         i += 1;
     }
-    pen
+    current
 }
 
 // The number that `count` bits write, from `values[from]` on, the first of them highest.
@@ -55,14 +55,14 @@ fn put_bits(file: &mut [u8], writer: Writer, values: &[u8]) -> Writer
     requires { ⌜ Open writer × (placeOf writer + length (now values) ≤ 8 * length (now file)) ⌝ }
     ensures { λ r. ⌜ Open r × (placeOf r ≡ placeOf writer + length (now (values .entry))) × (wholeOf (now (file .exit)) r ≡ putFields (wholeOf (now (file .entry)) writer) (placeOf writer) 1 (now (values .entry)) (length (now (values .entry)))) ⌝ }
 {
-    let mut pen = writer;
+    let mut current = writer;
     let mut i = 0;
     while i + 16 <= values.len() {
-        pen = bits::write(file, pen, 16, number_of(values, i, 16));
+        current = bits::write(file, current, 16, number_of(values, i, 16));
         i += 16;
     }
     let rest = values.len() - i;
-    bits::write(file, pen, rest, number_of(values, i, rest))
+    bits::write(file, current, rest, number_of(values, i, rest))
 }
 
 // The header.

@@ -1,23 +1,74 @@
 //! Times of the proved library beside the second implementation, in one run: generate, read and step. Each figure is the least of
 //! many runs, in nanoseconds for each word of the frame. Buffers are made once and not cleared between runs.
-use rughtena as card;
 use rughtena_tests::orders::{bit_reversal, identity, reversal, stride, Random};
 use rughtena_tests::second::Dims;
-use rughtena_tests::{second, Clock, Refusal, Said};
+use rughtena_tests::{Clock, Refusal, Said};
 use std::hint::black_box;
 use std::time::Instant;
 
-type Generate = fn(usize, usize, &[u16], &mut [u8], &mut [u16]) -> Result<usize, Refusal>;
-type Read = fn(&[u8], &mut [u16], &[u16]) -> Result<(usize, usize), Refusal>;
-type Step =
-    fn(&[u8], &mut Clock, &mut [u16], &mut [u16], &[u16], &mut [u16]) -> Result<Said, Refusal>;
-
-/// The calls of one implementation.
-struct Calls {
-    generate: Generate,
-    read: Read,
-    step: Step,
+/// The calls of one implementation, made directly.
+trait Calls {
+    fn generate(
+        n: usize,
+        w: usize,
+        images: &[u16],
+        file: &mut [u8],
+        scratch: &mut [u16],
+    ) -> Result<usize, Refusal>;
+    fn read(file: &[u8], images: &mut [u16], scratch: &[u16]) -> Result<(usize, usize), Refusal>;
+    fn step(
+        file: &[u8],
+        clock: &mut Clock,
+        first: &mut [u16],
+        second: &mut [u16],
+        words: &[u16],
+        out: &mut [u16],
+    ) -> Result<Said, Refusal>;
 }
+
+/// The calls of a module.
+macro_rules! calls {
+    ($name:ident, $module:path) => {
+        struct $name;
+
+        impl Calls for $name {
+            fn generate(
+                n: usize,
+                w: usize,
+                images: &[u16],
+                file: &mut [u8],
+                scratch: &mut [u16],
+            ) -> Result<usize, Refusal> {
+                use $module as module;
+                module::generate(n, w, images, file, scratch)
+            }
+
+            fn read(
+                file: &[u8],
+                images: &mut [u16],
+                scratch: &[u16],
+            ) -> Result<(usize, usize), Refusal> {
+                use $module as module;
+                module::read(file, images, scratch)
+            }
+
+            fn step(
+                file: &[u8],
+                clock: &mut Clock,
+                first: &mut [u16],
+                second: &mut [u16],
+                words: &[u16],
+                out: &mut [u16],
+            ) -> Result<Said, Refusal> {
+                use $module as module;
+                module::step(file, clock, first, second, words, out)
+            }
+        }
+    };
+}
+
+calls!(Library, ::rughtena);
+calls!(Second, ::rughtena_tests::second);
 
 /// The least times in nanoseconds: a set generated, a set read, a frame stepped through.
 #[derive(Clone, Copy)]
@@ -31,58 +82,91 @@ fn least(best: &mut f64, work: impl FnOnce()) {
     *best = best.min(start.elapsed().as_nanos() as f64);
 }
 
-/// The implementations take turns, so that both meet the same state of the machine.
-fn measure(w: usize, order: &[u16], both: &[Calls; 2]) -> [Times; 2] {
-    let n = order.len();
-    let cycles = n / w;
-    let mut file = vec![0; Dims::new(n, w).length];
-    let mut scratch = vec![0; 4 * n + 1024];
-    let mut images = vec![0; n];
-    let mut first = vec![0; 2 * n];
-    let mut second = vec![0; 2 * n];
-    let mut out = vec![0; w];
-    let words = vec![7; w];
-    let mut times = [Times([f64::MAX; 3]); 2];
-    for _ in 0..RUNS {
-        for (calls, Times(best)) in both.iter().zip(&mut times) {
-            least(&mut best[0], || {
-                black_box((calls.generate)(
-                    n,
-                    w,
-                    black_box(order),
-                    &mut file,
-                    &mut scratch,
+/// The buffers of one case.
+struct Case<'a> {
+    w: usize,
+    order: &'a [u16],
+    file: Vec<u8>,
+    scratch: Vec<u16>,
+    images: Vec<u16>,
+    first: Vec<u16>,
+    second: Vec<u16>,
+    words: Vec<u16>,
+    out: Vec<u16>,
+}
+
+impl Case<'_> {
+    fn new(w: usize, order: &[u16]) -> Case<'_> {
+        let n = order.len();
+        Case {
+            w,
+            order,
+            file: vec![0; Dims::new(n, w).length],
+            scratch: vec![0; 4 * n + 1024],
+            images: vec![0; n],
+            first: vec![0; 2 * n],
+            second: vec![0; 2 * n],
+            words: vec![7; w],
+            out: vec![0; w],
+        }
+    }
+
+    /// One run of each call.
+    fn run<C: Calls>(&mut self, Times(best): &mut Times) {
+        let n = self.order.len();
+        least(&mut best[0], || {
+            let order = black_box(self.order);
+            black_box(C::generate(
+                n,
+                self.w,
+                order,
+                &mut self.file,
+                &mut self.scratch,
+            ))
+            .unwrap();
+        });
+        least(&mut best[1], || {
+            black_box(C::read(
+                black_box(&self.file),
+                &mut self.images,
+                &self.scratch,
+            ))
+            .unwrap();
+        });
+        let mut clock = Clock {
+            fill: 2,
+            ..Clock::default()
+        };
+        least(&mut best[2], || {
+            for _ in 0..n / self.w {
+                black_box(C::step(
+                    black_box(&self.file),
+                    &mut clock,
+                    &mut self.first,
+                    &mut self.second,
+                    &self.words,
+                    &mut self.out,
                 ))
                 .unwrap();
-            });
-            least(&mut best[1], || {
-                black_box((calls.read)(black_box(&file), &mut images, &scratch)).unwrap();
-            });
-            let mut clock = Clock {
-                fill: 2,
-                ..Clock::default()
-            };
-            least(&mut best[2], || {
-                for _ in 0..cycles {
-                    black_box((calls.step)(
-                        black_box(&file),
-                        &mut clock,
-                        &mut first,
-                        &mut second,
-                        &words,
-                        &mut out,
-                    ))
-                    .unwrap();
-                }
-            });
-        }
+            }
+        });
+    }
+}
+
+/// The implementations take turns, so that both meet the same state of the machine.
+fn measure(w: usize, order: &[u16]) -> [Times; 2] {
+    let mut case = Case::new(w, order);
+    let mut times = [Times([f64::MAX; 3]); 2];
+    for _ in 0..RUNS {
+        case.run::<Library>(&mut times[0]);
+        case.run::<Second>(&mut times[1]);
     }
     times
 }
 
-fn row(name: &str, w: usize, order: &[u16], both: &[Calls; 2]) {
+fn row(name: &str, w: usize, order: &[u16]) {
     let n = order.len();
-    let [Times(ours), Times(theirs)] = measure(w, order, both);
+    let [Times(ours), Times(theirs)] = measure(w, order);
     print!("| {n} | {w} | {name} |");
     for call in 0..3 {
         let (a, b) = (ours[call] / n as f64, theirs[call] / n as f64);
@@ -92,35 +176,23 @@ fn row(name: &str, w: usize, order: &[u16], both: &[Calls; 2]) {
 }
 
 fn main() {
-    let both = [
-        Calls {
-            generate: card::generate,
-            read: card::read,
-            step: card::step,
-        },
-        Calls {
-            generate: second::generate,
-            read: second::read,
-            step: second::step,
-        },
-    ];
     println!("| n | w | order | generate | second | ratio | read | second | ratio | step | second | ratio | generate, ms |");
     println!("| --- | --- | --- | --- | --- | --- | --- | --- | --- | --- | --- | --- | --- |");
     let mut random = Random(7);
     for w in [1, 2, 8, 16, 64] {
         for n in [256, 1024, 4096] {
-            row("random", w, &random.order(n), &both);
+            row("random", w, &random.order(n));
         }
         let n = 4096;
-        row("identity", w, &identity(n), &both);
-        row("reversal", w, &reversal(n), &both);
-        row("bit reversal", w, &bit_reversal(n), &both);
-        row("stride 64", w, &stride(n, 64), &both);
-        row("stride 2", w, &stride(n, 2), &both);
+        row("identity", w, &identity(n));
+        row("reversal", w, &reversal(n));
+        row("bit reversal", w, &bit_reversal(n));
+        row("stride 64", w, &stride(n, 64));
+        row("stride 2", w, &stride(n, 2));
     }
     for (n, w) in [(1000, 8), (4095, 63)] {
-        row("random", w, &random.order(n), &both);
-        row("identity", w, &identity(n), &both);
-        row("stride 5", w, &stride(n, 5), &both);
+        row("random", w, &random.order(n));
+        row("identity", w, &identity(n));
+        row("stride 5", w, &stride(n, 5));
     }
 }

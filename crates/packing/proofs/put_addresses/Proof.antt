@@ -11,10 +11,10 @@ use Rattle.packing.proofs.put_addresses.Statement.{statement}
 use Rattle.packing.proofs.put_addresses.Tie as tie
 
 abbrev Inv-loop : tie.InvT-loop
-Inv-loop file₀ width values count pen₀ i₀ file pen i = (i ≤ count) × Putting (wholeOf file₀ pen₀) (placeOf pen₀) width values i file pen
+Inv-loop file₀ width values count current₀ i₀ file current i = (i ≤ count) × Putting (wholeOf file₀ current₀) (placeOf current₀) width values i file current
 
 abbrev μ-loop : tie.MeasureT-loop
-μ-loop file₀ width values count pen₀ i₀ file pen i = count - i
+μ-loop file₀ width values count current₀ i₀ file current i = count - i
 
 -- what the writer holds does not change the length
 whole-long : (s : tie.Start Inv-loop μ-loop) → length (wholeOf (s .args .file .now) (s .args .writer)) ≡ length (s .args .file .now)
@@ -56,7 +56,7 @@ returns c =
     let s = c .before .before .before .before in
     let l = c .before .loop in
     let e : l .i ≡ s .args .count = omega arith in
-    let P : Putting (wholeOf (s .args .file .now) (s .args .writer)) (placeOf (s .args .writer)) (s .args .width) (s .args .values .now) (s .args .count) (l .file) (l .pen) = rw e at (l .inv .1) in
+    let P : Putting (wholeOf (s .args .file .now) (s .args .writer)) (placeOf (s .args .writer)) (s .args .width) (s .args .values .now) (s .args .count) (l .file) (l .current) = rw e at (l .inv .1) in
     (P .opened, P .place, P .put)
 
 pub put-addresses-spec : {M : Type 1} → statement M

@@ -12,10 +12,10 @@ use Rattle.packing.proofs.put_bits.Statement.{statement}
 use Rattle.packing.proofs.put_bits.Tie as tie
 
 abbrev Inv-loop : tie.InvT-loop
-Inv-loop file₀ values pen₀ i₀ file pen i = (i ≤ length values) × Putting (wholeOf file₀ pen₀) (placeOf pen₀) 1 values i file pen
+Inv-loop file₀ values current₀ i₀ file current i = (i ≤ length values) × Putting (wholeOf file₀ current₀) (placeOf current₀) 1 values i file current
 
 abbrev μ-loop : tie.MeasureT-loop
-μ-loop file₀ values pen₀ i₀ file pen i = length values - i
+μ-loop file₀ values current₀ i₀ file current i = length values - i
 
 -- what the writer holds does not change the length
 whole-long : (s : tie.Start Inv-loop μ-loop) → length (wholeOf (s .args .file .now) (s .args .writer)) ≡ length (s .args .file .now)
