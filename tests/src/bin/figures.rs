@@ -2,73 +2,9 @@
 //! many runs, in nanoseconds for each word of the frame. Buffers are made once and not cleared between runs.
 use rughtena_tests::orders::{bit_reversal, identity, reversal, stride, Random};
 use rughtena_tests::second::Dims;
-use rughtena_tests::{Clock, Refusal, Said};
+use rughtena_tests::Clock;
 use std::hint::black_box;
 use std::time::Instant;
-
-/// The calls of one implementation, made directly.
-trait Calls {
-    fn generate(
-        n: usize,
-        w: usize,
-        images: &[u16],
-        file: &mut [u8],
-        scratch: &mut [u16],
-    ) -> Result<usize, Refusal>;
-    fn read(file: &[u8], images: &mut [u16], scratch: &[u16]) -> Result<(usize, usize), Refusal>;
-    fn step(
-        file: &[u8],
-        clock: &mut Clock,
-        first: &mut [u16],
-        second: &mut [u16],
-        words: &[u16],
-        out: &mut [u16],
-    ) -> Result<Said, Refusal>;
-}
-
-/// The calls of a module.
-macro_rules! calls {
-    ($name:ident, $module:path) => {
-        struct $name;
-
-        impl Calls for $name {
-            fn generate(
-                n: usize,
-                w: usize,
-                images: &[u16],
-                file: &mut [u8],
-                scratch: &mut [u16],
-            ) -> Result<usize, Refusal> {
-                use $module as module;
-                module::generate(n, w, images, file, scratch)
-            }
-
-            fn read(
-                file: &[u8],
-                images: &mut [u16],
-                scratch: &[u16],
-            ) -> Result<(usize, usize), Refusal> {
-                use $module as module;
-                module::read(file, images, scratch)
-            }
-
-            fn step(
-                file: &[u8],
-                clock: &mut Clock,
-                first: &mut [u16],
-                second: &mut [u16],
-                words: &[u16],
-                out: &mut [u16],
-            ) -> Result<Said, Refusal> {
-                use $module as module;
-                module::step(file, clock, first, second, words, out)
-            }
-        }
-    };
-}
-
-calls!(Library, ::rughtena);
-calls!(Second, ::rughtena_tests::second);
 
 /// The least times in nanoseconds: a set generated, a set read, a frame stepped through.
 #[derive(Clone, Copy)]
@@ -110,56 +46,60 @@ impl Case<'_> {
             out: vec![0; w],
         }
     }
+}
 
-    /// One run of each call.
-    fn run<C: Calls>(&mut self, Times(best): &mut Times) {
-        let n = self.order.len();
-        least(&mut best[0], || {
-            let order = black_box(self.order);
-            black_box(C::generate(
-                n,
-                self.w,
-                order,
-                &mut self.file,
-                &mut self.scratch,
-            ))
-            .unwrap();
-        });
-        least(&mut best[1], || {
-            black_box(C::read(
-                black_box(&self.file),
-                &mut self.images,
-                &self.scratch,
-            ))
-            .unwrap();
-        });
-        let mut clock = Clock {
-            fill: 2,
-            ..Clock::default()
-        };
-        least(&mut best[2], || {
-            for _ in 0..n / self.w {
-                black_box(C::step(
-                    black_box(&self.file),
-                    &mut clock,
-                    &mut self.first,
-                    &mut self.second,
-                    &self.words,
-                    &mut self.out,
+/// One run of each call of a module, made directly.
+macro_rules! run {
+    ($name:ident, $module:path) => {
+        fn $name(case: &mut Case, Times(best): &mut Times) {
+            use $module as calls;
+            let n = case.order.len();
+            least(&mut best[0], || {
+                let order = black_box(case.order);
+                black_box(calls::generate(
+                    n,
+                    case.w,
+                    order,
+                    &mut case.file,
+                    &mut case.scratch,
                 ))
                 .unwrap();
-            }
-        });
-    }
+            });
+            least(&mut best[1], || {
+                let file = black_box(&case.file);
+                black_box(calls::read(file, &mut case.images, &case.scratch)).unwrap();
+            });
+            let mut clock = Clock {
+                fill: 2,
+                ..Clock::default()
+            };
+            least(&mut best[2], || {
+                for _ in 0..n / case.w {
+                    black_box(calls::step(
+                        black_box(&case.file),
+                        &mut clock,
+                        &mut case.first,
+                        &mut case.second,
+                        &case.words,
+                        &mut case.out,
+                    ))
+                    .unwrap();
+                }
+            });
+        }
+    };
 }
+
+run!(run_library, ::rughtena);
+run!(run_second, ::rughtena_tests::second);
 
 /// The implementations take turns, so that both meet the same state of the machine.
 fn measure(w: usize, order: &[u16]) -> [Times; 2] {
     let mut case = Case::new(w, order);
     let mut times = [Times([f64::MAX; 3]); 2];
     for _ in 0..RUNS {
-        case.run::<Library>(&mut times[0]);
-        case.run::<Second>(&mut times[1]);
+        run_library(&mut case, &mut times[0]);
+        run_second(&mut case, &mut times[1]);
     }
     times
 }
