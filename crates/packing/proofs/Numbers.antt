@@ -10,22 +10,23 @@ use lib.ListN.{length, getD}
 use Rattle.bits.specs.Bits.{Bytes, putBit, putField}
 use Rattle.bits.specs.Writing.{Open, placeOf, wholeOf}
 use Rattle.bits.specs.declared.writer.Writer.{Writer}
-use Rattle.packing.specs.Packing.{numberOf, putFields}
+use Rattle.tables.specs.Generated.{numberAt}
+use Rattle.packing.specs.Packing.{putFields}
 use Rattle.packing.proofs.Parts.{Putting, long-written}
 
 -- the number that the first m bits write
 pub record Gathered (values : List ℕ) (from m number : ℕ) : Type 0 where
-  pub same : number ≡ numberOf values from m
+  pub same : number ≡ numberAt values from m
   pub small : number < 2 ^ m
 
 pub gathered-none : (values : List ℕ) (from : ℕ) → Gathered values from 0 0
-unfolding numberOf
+unfolding numberAt
 gathered-none values from = record { same = refl; small = omega arith }
 
 -- one bit more
 pub gathered-more : {values : List ℕ} {from m number : ℕ} → Gathered values from m number → getD values (from + m) 0 < 2
     → Gathered values from (m + 1) (number * 2 + getD values (from + m) 0)
-unfolding numberOf
+unfolding numberAt
 gathered-more {values} {from} {m} G l = record {
   same = rw add-one (ap (λ (z : ℕ). z * 2 + getD values (from + m) 0) (G .same));
   small = rw (add-one m, pow-suc 2 m) (omega (arith, G .small));
@@ -33,13 +34,13 @@ gathered-more {values} {from} {m} G l = record {
 
 -- behind the first i bits, the number of m more is put
 pub number-put : (file : List ℕ) (at : ℕ) (values : List ℕ) (i m : ℕ) → ((j : ℕ) → j < m → getD values (i + j) 0 < 2)
-    → putField (putFields file at 1 values i) (at + i) m (numberOf values i m) ≡ putFields file at 1 values (i + m)
-unfolding putFields putField numberOf
+    → putField (putFields file at 1 values i) (at + i) m (numberAt values i m) ≡ putFields file at 1 values (i + m)
+unfolding putFields putField numberAt
 number-put file at values i zero two = rw add-zero refl
 number-put file at values i (suc m) two =
     let v : ℕ = getD values (i + m) 0 in
-    let half : (numberOf values i m * 2 + v) / 2 ≡ numberOf values i m = omega (arith, two m (omega arith)) in
-    let low : (numberOf values i m * 2 + v) % 2 ≡ v % 2 = omega arith in
+    let half : (numberAt values i m * 2 + v) / 2 ≡ numberAt values i m = omega (arith, two m (omega arith)) in
+    let low : (numberAt values i m * 2 + v) % 2 ≡ v % 2 = omega arith in
     let place : at + i + m ≡ at + (i + m) * 1 + 0 = omega arith in
     rw (add-suc i m)
     (ap₂ (λ (z : List ℕ) (x : ℕ). putBit z (at + i + m) x)
@@ -48,7 +49,7 @@ number-put file at values i (suc m) two =
 
 -- a field that holds m bits more
 pub putting-number : {whole file after values : List ℕ} {current next : Writer} {at i number : ℕ} (m : ℕ) → Putting whole at 1 values i file current
-    → ((j : ℕ) → j < length values → getD values j 0 < 2) → i + m ≤ length values → number ≡ numberOf values i m
+    → ((j : ℕ) → j < length values → getD values j 0 < 2) → i + m ≤ length values → number ≡ numberAt values i m
     → Open next × (placeOf next ≡ placeOf current + m) × (wholeOf after next ≡ putField (wholeOf file current) (placeOf current) m number)
     → Bytes after → Putting whole at 1 values (i + m) after next
 putting-number {whole} {file} {after} {values} {current} {next} {at} {i} {number} m P two fits e W B = record {

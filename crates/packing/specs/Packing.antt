@@ -14,11 +14,6 @@ unfoldable pub putFields : List ℕ → ℕ → ℕ → List ℕ → ℕ → Lis
 putFields file at k values zero = file
 putFields file at k values (suc m) = putField (putFields file at k values m) (at + m * k) k (getD values m 0)
 
--- the number that m bits write, from value `from` on, the first of them highest
-unfoldable pub numberOf : List ℕ → ℕ → ℕ → ℕ
-numberOf values from zero = 0
-numberOf values from (suc m) = numberOf values from m * 2 + getD values (from + m) 0
-
 -- "n in 13 bits, w in 7 bits, four zero bits"
 unfoldable pub putHeader : List ℕ → ℕ → ℕ → List ℕ
 putHeader file n w = putField (putField (putField file 0 13 n) 13 7 w) 20 4 0

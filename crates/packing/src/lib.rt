@@ -9,7 +9,8 @@ ghost use Rattle.network.specs.Calls.{Sized};
 ghost use Rattle.bits.specs.Writing.{Open, placeOf, wholeOf};
 ghost use Rattle.tables.specs.Terms.{Dims, cycles, fileLength};
 ghost use Rattle.tables.specs.Format.{shapeOf};
-ghost use Rattle.packing.specs.Packing.{numberOf, putFields, putHeader, putLine, putFilling, Blank, Planned, Ready};
+ghost use Rattle.tables.specs.Generated.{numberAt};
+ghost use Rattle.packing.specs.Packing.{putFields, putHeader, putLine, putFilling, Blank, Planned, Ready};
 use bits::Writer;
 use tables::Shape;
 
@@ -38,7 +39,7 @@ fn put_addresses(
 fn number_of(values: &[u8], from: usize, count: usize) -> u16
     requires { ⌜ (from + count ≤ length (now values)) × (count ≤ 16) × (from + count < 2 ^ 32) ⌝ }
     requires { ⌜ ((i : ℕ) → i < length (now values) → getD (now values) i 0 < 2) ⌝ }
-    ensures { λ r. ⌜ (r ≡ numberOf (now (values .entry)) from count) × (r < 2 ^ count) ⌝ }
+    ensures { λ r. ⌜ (r ≡ numberAt (now (values .entry)) from count) × (r < 2 ^ count) ⌝ }
 {
     let mut number: u16 = 0;
     let mut i = 0;
