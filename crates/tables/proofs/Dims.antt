@@ -45,29 +45,8 @@ pub logUp-least : (x e : ℕ) → x ≤ 2 ^ e → logUp x ≤ e
 unfolding logUp
 logUp-least x e h = logFrom-least x x 0 e (omega arith) h
 
--- a power that does not reach x comes before it: one turn of a loop that looks for the power
-pub logUp-above : (x e : ℕ) → 2 ^ e < x → e < logUp x
-logUp-above x e low = elim (decLe (logUp x) e) [
-  | yes l ↦ absurd (omega (arith, logUp-reaches x, pow-le-pow-right {n = 2} (omega arith) l))
-  | no l ↦ omega arith
-]
-
-pub logUp-exact : (x e : ℕ) → 2 ^ e < x → x ≤ 2 ^ suc e → logUp x ≡ suc e
-logUp-exact x e low h = omega (arith, logUp-above x e low, logUp-least x (suc e) h)
-
 pub logUp-one : logUp 1 ≡ 0
 logUp-one = omega (arith, logUp-least 1 0 (omega arith))
-
--- the power is less than twice the number
-pub logUp-tight : (x : ℕ) → 0 < x → 2 ^ logUp x < 2 * x
-logUp-tight x l = by (logUp x) refl
-  where
-    by : (e : ℕ) → logUp x ≡ e → 2 ^ e < 2 * x
-    by zero q = omega arith
-    by (suc e) q = elim (decLe x (2 ^ e)) [
-      | yes m ↦ absurd (omega (arith, logUp-least x e m))
-      | no m ↦ rw pow-suc (omega arith)
-    ]
 
 -- ---- what valid dimensions determine
 

@@ -1,14 +1,15 @@
--- What opening a set works out, as the code does: the least power of two that is large enough, found by doubling; a shape, made of its
--- parts and read part by part; and the tests of a header that was read.
-use Prim.Native.Nat.{ℕ, _+_, _*_, _/_, _%_, _^_, _<_, _≤_}
+-- What opening a set works out, as the code does: the least power of two that is large enough, found by counting digits; a shape, made of
+-- its parts and read part by part; and the tests of a header that was read.
+use Prim.Native.Nat.{ℕ, suc, _+_, _-_, _*_, _/_, _%_, _^_, _<_, _≤_}
 use mathlib.Core.Path.{_≡_, refl, ap, _∙_}
 use mathlib.Core.List.{List}
 use native.Mathlib.Omega.{arith}
-use native.Mathlib.Numerals.{add-one}
-use native.Mathlib.Nat.{one-mul, pow-suc}
+use native.Mathlib.Nat.{one-mul, pow-suc, pow-le-pow-right}
+use native.Mathlib.Decide.{decLe}
+use lib.Count.{leadingZeros, leading-length}
 use lib.Dec.{lit<}
 use lib.ListN.{length}
-use lib.Pow.{pow-pos, shl-exact}
+use lib.Pow.{shl-exact}
 use Rattle.laws.specs.Choice.{ifLt, ifEq}
 use Rattle.laws.proofs.Choices.{ifLt-no}
 use Rattle.bits.specs.Bits.{field}
@@ -19,33 +20,25 @@ use Rattle.tables.specs.Format.{headerWords, headerWidth, headerZeros, l
 use Rattle.tables.specs.declared.Shape.{Shape}
 use Rattle.tables.specs.declared.Opened.{Opened}
 use Rattle.tables.specs.declared.Opened.the-variants.{Refused}
-use Rattle.tables.proofs.Dims.{logUp-least, logUp-above, depth-few, addressRow-few, switchBits-few}
+use Rattle.tables.proofs.Dims.{logUp-least, logUp-reaches, depth-few, addressRow-few, switchBits-few}
 
--- ---- doubling
+-- ---- the least power of two that is large enough
 
--- the power of e, on the way up to the first that reaches x
-pub record Climbing (x e power : ℕ) : Type 0 where
-  pub exact : power ≡ 2 ^ e
-  pub upto : e ≤ logUp x
+-- the digits of x - 1 are as many as the least power of two that reaches x says
+pub log-up-digits : (x : ℕ) → 0 < x → x - 1 < 2 ^ 64 → 64 - leadingZeros 64 (x - 1) ≡ logUp x
+log-up-digits x some fits = elim (decLe digits (logUp x)) [
+  | yes l ↦ omega (arith, found .1, logUp-least x digits (omega (arith, found .2)))
+  | no l ↦ absurd (omega (arith, found .3, logUp-reaches x, pow-suc 2 (logUp x), pow-le-pow-right {n = 2} (omega arith) (beyond l)))
+]
+  where
+    found : (m : ℕ) × (leadingZeros 64 (x - 1) + m ≡ 64) × (x - 1 < 2 ^ m) × (2 ^ m ≤ 2 * (x - 1) + 1)
+    found = leading-length 64 (x - 1) fits
 
-pub climbing-none : (x : ℕ) → Climbing x 0 1
-climbing-none x = record { exact = refl; upto = omega arith }
+    digits : ℕ
+    digits = found .0
 
-module _ {x e power : ℕ} (C : Climbing x e power) where
-  pub climbing-positive : 0 < power
-  climbing-positive = omega (arith, C .exact, pow-pos e)
-
-  pub climbing-few : x ≤ 4096 → e ≤ 12
-  climbing-few l = omega (arith, C .upto, logUp-least x 12 l)
-
-  pub climbing-more : power < x → Climbing x (e + 1) (power * 2)
-  climbing-more l = record {
-    exact = rw (add-one, pow-suc) (ap (λ (z : ℕ). z * 2) (C .exact));
-    upto = omega (arith, logUp-above x e (omega (arith, C .exact)));
-  }
-
-  pub climbing-done : x ≤ power → e ≡ logUp x
-  climbing-done l = omega (arith, C .upto, logUp-least x e (omega (arith, C .exact)))
+    beyond : (digits ≤ logUp x → ⊥) → suc (logUp x) ≤ digits
+    beyond l = omega arith
 
 -- ---- a shape
 

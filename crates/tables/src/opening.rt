@@ -21,18 +21,12 @@ const MOST_WIDTH: usize = 64;
 // The bits of the header.
 const HEADER_BITS: usize = 24;
 
-// The least e with 2^e at least x.
+// The least e with 2^e at least x: the binary digits that x - 1 has.
 fn log_up(x: usize) -> usize
-    requires { ⌜ x ≤ 4096 ⌝ }
+    requires { ⌜ 0 < x ⌝ }
     ensures { λ r. ⌜ r ≡ logUp x ⌝ }
 {
-    let mut e: usize = 0;
-    let mut power: usize = 1;
-    while power < x {
-        power = power * 2;
-        e += 1;
-    }
-    e
+    64 - usize::leading_zeros(x - 1) as usize
 }
 
 // The shape of a set of `words` words and width `width`. Only our own crates call it, with numbers that keep the limits.

@@ -3,7 +3,7 @@ use Prim.Native.Nat.{_*_, _≤_}
 use native.Mathlib.Omega.{arith}
 use borrow.Author.Needs.{needs}
 use Rattle.tables.specs.Terms.{cycles, depth}
-use Rattle.tables.proofs.Dims.{cycles-few, depth-few}
+use Rattle.tables.proofs.Dims.{cycles-positive, depth-few}
 use Rattle.tables.proofs.Opens.{parts-few, shape-made}
 use Rattle.tables.proofs.opening.shape_of.Statement.{statement}
 use Rattle.tables.proofs.opening.shape_of.Tie as tie
@@ -13,7 +13,7 @@ div-cycles c = search needs
 
 log-up-requires : tie.Need-log-up-requires
 unfolding cycles
-log-up-requires c κs = cycles-few (c .pre)
+log-up-requires c κs = cycles-positive (c .pre)
 
 log-up-requires-2 : tie.Need-log-up-requires-2
 log-up-requires-2 c κs = search needs
