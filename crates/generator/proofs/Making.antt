@@ -6,29 +6,30 @@ use mathlib.Core.Path.{_≡_, refl, sym, ap, subst, _∙_}
 use mathlib.Core.List.{List}
 use native.Mathlib.Omega.{arith}
 use native.Mathlib.Decide.{decLt}
-use native.Mathlib.Nat.{mod-lt}
-use lib.ListN.{length, getD, take}
+use native.Mathlib.Nat.{mod-lt, mul-le-mul-right}
+use lib.ListN.{length, getD}
 use lib.Seq.{getD-take}
-use Rattle.laws.specs.Permutation.{Injective, Permutes, inverse}
+use Rattle.laws.specs.Permutation.{Permutes, inverse}
 use Rattle.laws.proofs.Permutations.{permutes-ext}
 use Rattle.bits.specs.Bits.{Bytes}
+use Rattle.bits.specs.Writing.{wholeOf}
+use Rattle.bits.specs.declared.writer.Writer.{Writer}
+use Rattle.bits.proofs.Fields.{length-putField}
 use Rattle.network.specs.Carried.{carried}
-use Rattle.network.specs.Steps.{Inverses}
 use Rattle.network.proofs.Carried.{carried-below, carried-above, carried-permutes}
 use Rattle.network.proofs.Fronts.{front-inverses}
-use Rattle.tables.specs.Terms.{Dims, cycles, depth, fileLength}
+use Rattle.tables.specs.Terms.{Dims, cycles, depth, lineBits, headerBits, fileLength}
 use Rattle.tables.specs.Format.{lineAt, shapeOf}
 use Rattle.tables.specs.declared.Shape.{Shape}
-use Rattle.tables.specs.Generated.{wordOf, portOf, writeOf, setBits}
-use Rattle.tables.proofs.Dims.{address-below, depth-reaches, lines-few}
+use Rattle.tables.specs.Generated.{Schedule, wordOf, portOf, writeOf, setBits}
+use Rattle.tables.proofs.Dims.{address-below, depth-reaches, lines-few, fileLength-reaches}
 use Rattle.tables.proofs.Prefix.{setBits-prefix}
 use Rattle.tables.proofs.Written.{Written, written-ext, written-all}
 use Rattle.packing.specs.Packing.{Planned, Ready, putLine, putFilling}
 use Rattle.packing.proofs.Putting.{line-written, filling-written}
-use Rattle.generator.specs.Schedule.{Took, Linked, Scheduled, addressOf, extended}
+use Rattle.generator.specs.Schedule.{Took, Linked, addressOf, extended}
 use Rattle.generator.specs.Generating.{Filled}
 use Rattle.generator.proofs.Extensions.{extended-same, extended-here, bank-word, address-word, took-word, took-port, took-bank}
-use Rattle.generator.proofs.Taking.{scheduled-schedule}
 
 module _ {n w : ℕ} {p : ℕ → ℕ} {reads : ℕ → ℕ → ℕ} {t : ℕ} {words heads edges owner addresses forward back writes : List ℕ}
     (D : Dims n w) (P : Permutes n p) (T : Took n w p reads t words heads edges owner)
@@ -71,7 +72,7 @@ module _ {n w : ℕ} {p : ℕ → ℕ} {reads : ℕ → ℕ → ℕ} {t : ℕ} {
   -- the bits that are written, one line further
   pub making-more : {before file : List ℕ} → t < cycles n w → fileLength n w ≤ length before
       → Written (setBits n w p reads) before file (lineAt n w t)
-      → Written (setBits n w p more) before (putLine n w file t addresses forward writes) (lineAt n w (t + 1))
+      → Written (setBits n w p more) before (putLine n w file (lineAt n w t) addresses forward writes) (lineAt n w (t + 1))
   making-more {before} l fits W =
       line-written n w p more before t l fits addresses forward writes lines plan-read plan-carried plan-write
       (written-ext (setBits-prefix (D .wide) n p reads more t (omega arith) (λ s b m q. sym (extended-same reads t (addressOf w words) s b (λ e. omega arith)))) W)
@@ -80,22 +81,24 @@ module _ {n w : ℕ} {p : ℕ → ℕ} {reads : ℕ → ℕ → ℕ} {t : ℕ} {
   pub plan-ready : Ready n w addresses forward back writes
   plan-ready = record {
     reads-long = L .blank .reads-long;
-    forward-long = L .blank .forward-long;
-    back-long = L .blank .back-long;
     writes-long = L .blank .writes-long;
     reads-below = λ b l.
         let k = bank-word words (T .banked) b l in
         let e : getD addresses b 0 ≡ getD words (k .0) 0 / w = sym (ap (λ (z : ℕ). getD addresses z 0) (k .2)) ∙ L .read (k .0) (k .1) in
         rw e (address-below D (getD words (k .0) 0) (T .inside (k .0) (k .1)));
     writes-below = λ k l. rw (L .written k l) (address-below D (p (getD words k 0)) (P .below (getD words k 0) (T .inside k l)));
-    inverses =
-        front-inverses (2 ^ depth w) forward forward (lines-few D)
-        (permutes-ext (2 ^ depth w) (carried w (portOf w p more t)) (λ x. getD forward x 0) (λ x l. sym (plan-carried x l)) lines)
-        (record { long = L .blank .forward-long; each = λ x l. refl }) back
-        (record {
-          long = L .blank .back-long;
-          filled = λ x l. ap (λ (z : ℕ). getD back z 0) (getD-take (2 ^ depth w) forward x 0 l) ∙ returned x l;
-        });
+    wired = record {
+      forward-long = L .blank .forward-long;
+      back-long = L .blank .back-long;
+      inverses =
+          front-inverses (2 ^ depth w) forward forward (lines-few D)
+          (permutes-ext (2 ^ depth w) (carried w (portOf w p more t)) (λ x. getD forward x 0) (λ x l. sym (plan-carried x l)) lines)
+          (record { long = L .blank .forward-long; each = λ x l. refl }) back
+          (record {
+            long = L .blank .back-long;
+            filled = λ x l. ap (λ (z : ℕ). getD back z 0) (getD-take (2 ^ depth w) forward x 0 l) ∙ returned x l;
+          });
+    };
   }
     where
       -- back leads back
@@ -111,16 +114,16 @@ module _ {n w : ℕ} {p : ℕ → ℕ} {reads : ℕ → ℕ → ℕ} {t : ℕ} {
       ]
 
 -- all lines put, and the filling
-pub made : {n w : ℕ} {images before lent file next heads heads′ edges owner : List ℕ} {reads : ℕ → ℕ → ℕ} → Dims n w
+pub made : {n w : ℕ} {images before lent file next heads : List ℕ} {reads : ℕ → ℕ → ℕ} → Dims n w
     → Permutes n (λ i. getD images i 0) → Bytes before → fileLength n w ≤ length before
     → Linked n w (λ i. getD images i 0) lent next heads
-    → Scheduled n w (λ i. getD images i 0) reads (cycles n w) heads′ edges owner
+    → Schedule n w (λ i. getD images i 0) reads
     → Written (setBits n w (λ i. getD images i 0) reads) before file (lineAt n w (cycles n w))
     → Filled n w images before lent (putFilling n w file) next
 made {n} {w} {images} {before} {reads = reads} D P B fits K S W = record {
   reads = reads;
-  schedule = scheduled-schedule S;
-  written = written-all D P (scheduled-schedule S) B fits (filling-written n w (λ i. getD images i 0) reads before fits W);
+  schedule = S;
+  written = written-all D P S B fits (filling-written n w (λ i. getD images i 0) reads before fits W);
   scratch-long = K .long;
   scratch-kept = K .behind;
 }
@@ -141,9 +144,18 @@ module _ {bits before mid : List ℕ} {x : ℕ} where
     behind = λ i m. N .behind i m ∙ W .behind i (omega arith);
   }
 
+-- every line starts, and the last one ends, in the file
+pub lines-room : (n w t : ℕ) → t ≤ cycles n w → lineAt n w t ≤ 8 * fileLength n w
+unfolding lineAt
+lines-room n w t l = omega (arith, fileLength-reaches n w, mul-le-mul-right (lineBits n w) l)
+
 pub lines-begin : (n w t : ℕ) → lineAt n w 0 ≤ lineAt n w t
 unfolding lineAt
 lines-begin n w t = omega arith
+
+-- a writer stores what it holds in a file as long
+pub held-long : {bits before : List ℕ} {x : ℕ} (file : List ℕ) (writer : Writer) → Written bits before (wholeOf file writer) x → length file ≡ length before
+held-long file writer W = sym (length-putField file (8 * writer .first) (writer .held) (writer .window)) ∙ W .long
 
 -- ---- the shape stands for n and w
 
@@ -151,6 +163,14 @@ module _ (n w : ℕ) {s : Shape} (e : s ≡ shapeOf n w) where
   pub shape-cycles : s .cycles ≡ cycles n w
   unfolding shapeOf
   shape-cycles = rw e refl
+
+  pub shape-start : s .start ≡ lineAt n w 0
+  unfolding shapeOf lineAt headerBits
+  shape-start = rw e (omega arith)
+
+  pub shape-stride : s .stride ≡ lineBits n w
+  unfolding shapeOf
+  shape-stride = rw e refl
 
   pub shape-words : s .words ≡ n
   unfolding shapeOf

@@ -1,11 +1,16 @@
 // The call "generating".
 ghost use mathlib.Core.Path.{_≡_};
-ghost use Prim.Native.Nat.{_≤_};
+ghost use mathlib.Core.List.{List};
+ghost use Prim.Native.Nat.{ℕ, _≤_};
 ghost use lib.ListN.{length, getD};
 ghost use Rattle.laws.specs.Permutation.{Permutes};
-ghost use Rattle.tables.specs.Terms.{Dims, fileLength};
+ghost use Rattle.tables.specs.Terms.{Dims, cycles, fileLength};
+ghost use Rattle.tables.specs.Format.{lineAt, shapeOf};
+ghost use Rattle.tables.specs.Generated.{Schedule, Written, setBits};
+ghost use Rattle.generator.specs.Schedule.{Linked, Drawn};
 ghost use Rattle.generator.specs.Generating.{checksOf, Filled, Generates};
 use crate::Generation;
+use crate::scheduling::HEADS;
 use crate::scheduling::chain;
 use crate::scheduling::graph;
 use crate::scheduling::take_line;
@@ -13,6 +18,7 @@ use images::Checked;
 use matching::FREE;
 use matching::MOST;
 use refusal::Refusal;
+use tables::Shape;
 
 // The tests before the first lent word is written, with `room` bytes lent for the file and `scratch` scratch words.
 fn checks(n: usize, w: usize, images: &[u16], room: usize, scratch: usize) -> Checked
@@ -45,6 +51,57 @@ fn checks(n: usize, w: usize, images: &[u16], room: usize, scratch: usize) -> Ch
     images::check(images, n)
 }
 
+// Puts the lines of a permutation's set behind its header. The arrays of a line are made once and lent to each.
+fn put_lines(
+    images: &[u16],
+    next: &[u16],
+    heads: &mut [u16; HEADS],
+    edges: &mut [u64; MOST],
+    shape: Shape,
+    file: &mut [u8],
+)
+    requires { ⌜ (Dims (shape .words) (shape .width)) × (shape ≡ shapeOf (shape .words) (shape .width)) × Permutes (shape .words) (λ i. getD (now images) i 0) ⌝ }
+    requires { ⌜ (shape .words ≤ length (now images)) × (shape .words ≤ length (now next)) × (fileLength (shape .words) (shape .width) ≤ length (now file)) ⌝ }
+    requires { ⌜ ((lent : List ℕ) × Linked (shape .words) (shape .width) (λ i. getD (now images) i 0) lent (now next) (now heads)) × Drawn (shape .width) (now heads) (now edges) ⌝ }
+    requires { ⌜ ((lines : ℕ → ℕ → ℕ) → Written (setBits (shape .words) (shape .width) (λ i. getD (now images) i 0) lines) (now file) (now file) (lineAt (shape .words) (shape .width) 0)) ⌝ }
+    ensures { λ _. ⌜ ((lines : ℕ → ℕ → ℕ) × Schedule (shape .words) (shape .width) (λ i. getD (now (images .entry)) i 0) lines
+        × Written (setBits (shape .words) (shape .width) (λ i. getD (now (images .entry)) i 0) lines) (now (file .entry)) (now (file .exit)) (lineAt (shape .words) (shape .width) (cycles (shape .words) (shape .width)))) ⌝ }
+{
+    let mut owner = [FREE; MOST];
+    let mut words = [0u16; MOST];
+    let mut reads = [0u16; MOST];
+    let mut forward = tables::numbered();
+    let mut back = tables::numbered();
+    let mut writes = [0u16; MOST];
+    let mut switches = [0u8; 321];
+    let mut writer = bits::writer_at(file, shape.start);
+    let mut t = 0;
+    while t < shape.cycles {
+        take_line(next, heads, edges, &mut owner, &mut words, shape.width);
+        packing::plan_line(
+            images,
+            &words,
+            shape.width,
+            &mut reads,
+            &mut forward,
+            &mut back,
+            &mut writes,
+        );
+        writer = packing::put_line(
+            file,
+            writer,
+            shape,
+            &reads,
+            &forward,
+            &back,
+            &writes,
+            &mut switches,
+        );
+        t += 1;
+    }
+    bits::finish(file, writer);
+}
+
 // Writes the set of a permutation. The first n words of `next` hold the chains of words.
 fn make(images: &[u16], n: usize, w: usize, file: &mut [u8], next: &mut [u16]) -> usize
     requires { ⌜ (Dims n w) × (n ≤ length (now images)) × (n ≤ length (now next)) × (fileLength n w ≤ length (now file)) ⌝ }
@@ -55,37 +112,7 @@ fn make(images: &[u16], n: usize, w: usize, file: &mut [u8], next: &mut [u16]) -
     packing::put_header(file, n, w);
     let mut heads = chain(images, n, w, next);
     let mut edges = graph(&heads, w);
-    let mut owner = [FREE; MOST];
-    let mut words = [0u16; MOST];
-    let mut reads = [0u16; MOST];
-    let mut forward = tables::numbered();
-    let mut back = tables::numbered();
-    let mut writes = [0u16; MOST];
-    let mut switches = [0u8; 321];
-    let mut t = 0;
-    while t < shape.cycles {
-        take_line(next, &mut heads, &mut edges, &mut owner, &mut words, w);
-        packing::plan_line(
-            images,
-            &words,
-            w,
-            &mut reads,
-            &mut forward,
-            &mut back,
-            &mut writes,
-        );
-        packing::put_line(
-            file,
-            shape,
-            t,
-            &reads,
-            &forward,
-            &back,
-            &writes,
-            &mut switches,
-        );
-        t += 1;
-    }
+    put_lines(images, next, &mut heads, &mut edges, shape, file);
     packing::put_filling(file, shape);
     tables::file_length(shape)
 }

@@ -1,6 +1,6 @@
--- The bits of a line's network, and where the parts of a line are put.
+-- The bits of a line's network, and how the parts of a line are put one behind the other.
 use Prim.Native.Nat.{ℕ, _+_, _*_, _^_, _<_, _≤_}
-use mathlib.Core.Path.{_≡_, refl, sym, ap, ap₂, subst, _∙_}
+use mathlib.Core.Path.{_≡_, refl, sym, ap, subst, _∙_}
 use mathlib.Core.List.{List, _++_}
 use native.Mathlib.Omega.{arith}
 use lib.ListN.{length, getD, take, drop, length-append, length-drop}
@@ -11,11 +11,11 @@ use Rattle.network.specs.Setting.{setting}
 use Rattle.network.specs.Calls.{Sized}
 use Rattle.network.proofs.Performs.{length-setting, setting-bit}
 use Rattle.network.proofs.Unique.{setting-ext}
-use Rattle.tables.specs.Terms.{Dims, cycles, depth, switchBits, addressBits, addressRow, lineBits, fileLength}
-use Rattle.tables.specs.Format.{lineAt, shapeOf}
+use Rattle.tables.specs.Terms.{Dims, cycles, depth, switchBits, addressBits, addressRow, lineBits}
+use Rattle.tables.specs.Format.{shapeOf}
 use Rattle.tables.specs.declared.Shape.{Shape}
-use Rattle.tables.proofs.Dims.{cycles-reached, lines-few, lineAt-order, fileLength-reaches}
-use Rattle.packing.specs.Packing.{putFields, putLine, Ready}
+use Rattle.tables.proofs.Dims.{cycles-reached, lines-few, switchBits-few, addressBits-few}
+use Rattle.packing.specs.Packing.{putFields, putLine, Wired, Ready}
 
 -- ---- the bits of a network, in the front of an array of 321
 
@@ -36,37 +36,37 @@ switches-set forward after room count e few S h = (
 
 -- ---- the numbers of a line
 
--- the parts of line t lie in the file, and its addresses in their fields
-pub record Placed (n w : ℕ) (s : Shape) (t : ℕ) : Type 0 where
+-- the parts of a line keep the limits of what puts them, and its addresses fit their fields
+pub record Placed (n w : ℕ) (s : Shape) : Type 0 where
   pub lines : s .lines ≡ 2 ^ depth w
   pub few : s .lines ≤ 64
   pub switches : s .switches ≡ switchBits w
+  pub switches-few : s .switches ≤ 321
   pub width : s .width ≡ w
+  pub narrow : s .width ≤ 64
+  pub address-few : s .address ≤ 16
   pub reached : cycles n w ≤ 2 ^ s .address
-  pub room : s .start + t * s .stride + s .width * s .address + s .switches + s .width * s .address ≤ 8 * fileLength n w
+  pub total : s .stride ≡ s .width * s .address + s .switches + s .width * s .address
 
-pub line-placed : {n w t : ℕ} {s : Shape} → Dims n w → s ≡ shapeOf n w → t < cycles n w → Placed n w s t
-unfolding shapeOf lineAt lineBits addressRow
-line-placed {n} {w} {t} D e l = rw e (record {
+pub line-placed : {n w : ℕ} {s : Shape} → Dims n w → s ≡ shapeOf n w → Placed n w s
+unfolding shapeOf lineBits addressRow
+line-placed {n} {w} D e = rw e (record {
   lines = refl;
   few = lines-few D;
   switches = refl;
+  switches-few = switchBits-few D;
   width = refl;
+  narrow = D .narrow;
+  address-few = omega (arith, addressBits-few D);
   reached = cycles-reached D;
-  room = omega (arith, lineAt-order n w t (cycles n w) l, fileLength-reaches n w);
+  total = omega arith;
 })
 
--- ---- a line that is ready
+-- ---- a network that is wired
 
-module _ {n w t : ℕ} {s : Shape} {reads forward back writes : List ℕ} (D : Dims n w) (P : Placed n w s t) (R : Ready n w reads forward back writes) where
+module _ {n w : ℕ} {s : Shape} {forward back : List ℕ} (P : Placed n w s) (R : Wired w forward back) where
   pub front-long : length (take (s .lines) forward) ≡ s .lines
   front-long = length-take-le (s .lines) forward (omega (arith, P .few, R .forward-long))
-
-  pub read-fits : (i : ℕ) → i < s .width → getD reads i 0 < 2 ^ s .address
-  read-fits i l = omega (arith, P .reached, R .reads-below i (omega (arith, P .width)))
-
-  pub write-fits : (i : ℕ) → i < s .width → getD writes i 0 < 2 ^ s .address
-  write-fits i l = omega (arith, P .reached, R .writes-below i (omega (arith, P .width)))
 
   front-permutes : Permutes (2 ^ depth w) (λ x. getD (take (s .lines) forward) x 0)
   front-permutes =
@@ -91,17 +91,30 @@ module _ {n w t : ℕ} {s : Shape} {reads forward back writes : List ℕ} (D : D
       (setting-bit (depth w) (λ x. getD forward x 0)
       (permutes-ext (2 ^ depth w) (λ i. getD (take (s .lines) forward) i 0) (λ x. getD forward x 0) front-same front-permutes) i)
 
+-- ---- a line that is ready
+
+module _ {n w : ℕ} {s : Shape} {reads forward back writes : List ℕ} (P : Placed n w s) (R : Ready n w reads forward back writes) where
+  pub read-fits : (i : ℕ) → i < s .width → getD reads i 0 < 2 ^ s .address
+  read-fits i l = omega (arith, P .reached, R .reads-below i (omega (arith, P .width)))
+
+  pub write-fits : (i : ℕ) → i < s .width → getD writes i 0 < 2 ^ s .address
+  write-fits i l = omega (arith, P .reached, R .writes-below i (omega (arith, P .width)))
+
 -- ---- a line is put
 
-pub line-put : (n w t : ℕ) {s : Shape} (file first second third reads forward writes bits : List ℕ) → s ≡ shapeOf n w
-    → bits ≡ setting (depth w) (λ x. getD forward x 0) → length bits ≡ s .switches
-    → first ≡ putFields file (s .start + t * s .stride) (s .address) reads (s .width)
-    → second ≡ putFields first (s .start + t * s .stride + s .width * s .address) 1 bits (length bits)
-    → third ≡ putFields second (s .start + t * s .stride + s .width * s .address + s .switches) (s .address) writes (s .width)
-    → third ≡ putLine n w file t reads forward writes
-unfolding putLine shapeOf lineAt addressRow
-line-put n w t file first second third reads forward writes bits e set long a b c =
+-- a network without switches has no bits to put
+pub none-put : (file : List ℕ) (at k : ℕ) (values : List ℕ) {count : ℕ} → count ≡ 0 → file ≡ putFields file at k values count
+unfolding putFields
+none-put file at k values e = rw e refl
+
+pub line-put : (n w at : ℕ) {s : Shape} (file first second third reads forward writes : List ℕ) → s ≡ shapeOf n w
+    → first ≡ putFields file at (s .address) reads (s .width)
+    → second ≡ putFields first (at + s .width * s .address) 1 (setting (depth (s .width)) (λ x. getD forward x 0)) (s .switches)
+    → third ≡ putFields second (at + s .width * s .address + s .switches) (s .address) writes (s .width)
+    → third ≡ putLine n w file at reads forward writes
+unfolding putLine shapeOf addressRow
+line-put n w at file first second third reads forward writes e a b c =
     (rw e at c)
-    ∙ ap (λ (z : List ℕ). putFields z (lineAt n w t + addressRow n w + switchBits w) (addressBits n w) writes w)
-    ((rw (long, e) at b)
-    ∙ ap₂ (λ (z y : List ℕ). putFields z (lineAt n w t + addressRow n w) 1 y (switchBits w)) (rw e at a) set)
+    ∙ ap (λ (z : List ℕ). putFields z (at + addressRow n w + switchBits w) (addressBits n w) writes w)
+    ((rw e at b)
+    ∙ ap (λ (z : List ℕ). putFields z (at + addressRow n w) 1 (setting (depth w) (λ x. getD forward x 0)) (switchBits w)) (rw e at a))

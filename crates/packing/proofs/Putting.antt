@@ -102,7 +102,7 @@ module _ (n w : ℕ) (p : ℕ → ℕ) (reads : ℕ → ℕ → ℕ) (before : L
         → ((x : ℕ) → x < 2 ^ depth w → getD forward x 0 ≡ carried w (portOf w p reads t) x)
         → ((k : ℕ) → k < w → getD writes k 0 ≡ writeOf w p reads t k)
         → Written (setBits n w p reads) before file (lineAt n w t)
-        → Written (setBits n w p reads) before (putLine n w file t addresses forward writes) (lineAt n w (t + 1))
+        → Written (setBits n w p reads) before (putLine n w file (lineAt n w t) addresses forward writes) (lineAt n w (t + 1))
     unfolding putLine
     line-written addresses forward writes P a f k W =
         writes-put writes k (switches-put (λ x. getD forward x 0) P f (reads-put addresses a W))

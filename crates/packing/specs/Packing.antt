@@ -18,13 +18,12 @@ putFields file at k values (suc m) = putField (putFields file at k values m) (at
 unfoldable pub putHeader : List ℕ → ℕ → ℕ → List ℕ
 putHeader file n w = putField (putField (putField file 0 13 n) 13 7 w) 20 4 0
 
--- line t: the read addresses, the bits of the network for the permutation `forward`, the write addresses
+-- a line from bit `at` on: the read addresses, the bits of the network for the permutation `forward`, the write addresses
 unfoldable pub putLine : ℕ → ℕ → List ℕ → ℕ → List ℕ → List ℕ → List ℕ → List ℕ
-putLine n w file t reads forward writes =
+putLine n w file at reads forward writes =
     putFields
-    (putFields (putFields file (lineAt n w t) (addressBits n w) reads w)
-    (lineAt n w t + addressRow n w) 1 (setting (depth w) (λ x. getD forward x 0)) (switchBits w))
-    (lineAt n w t + addressRow n w + switchBits w) (addressBits n w) writes w
+    (putFields (putFields file at (addressBits n w) reads w) (at + addressRow n w) 1 (setting (depth w) (λ x. getD forward x 0)) (switchBits w))
+    (at + addressRow n w + switchBits w) (addressBits n w) writes w
 
 -- "zero bits up to a whole byte"
 unfoldable pub putFilling : ℕ → ℕ → List ℕ → List ℕ
@@ -48,12 +47,16 @@ pub record Planned (w : ℕ) (p : ℕ → ℕ) (words : List ℕ) (m : ℕ) (rea
   pub from : (k : ℕ) → k < m → getD back k 0 ≡ getD words k 0 % w
   pub written : (k : ℕ) → k < m → getD writes k 0 ≡ p (getD words k 0) / w
 
--- a line that can be put: addresses below c, and a permutation of the network's lines with its inverse
-pub record Ready (n w : ℕ) (reads forward back writes : List ℕ) : Type 0 where
-  pub reads-long : length reads ≡ 64
+-- a permutation of the network's lines, with its inverse
+pub record Wired (w : ℕ) (forward back : List ℕ) : Type 0 where
   pub forward-long : length forward ≡ 64
   pub back-long : length back ≡ 64
+  pub inverses : Inverses (take (2 ^ depth w) forward) (take (2 ^ depth w) back)
+
+-- a line that can be put: addresses below c, and a permutation for the network
+pub record Ready (n w : ℕ) (reads forward back writes : List ℕ) : Type 0 where
+  pub reads-long : length reads ≡ 64
   pub writes-long : length writes ≡ 64
   pub reads-below : (b : ℕ) → b < w → getD reads b 0 < cycles n w
   pub writes-below : (k : ℕ) → k < w → getD writes k 0 < cycles n w
-  pub inverses : Inverses (take (2 ^ depth w) forward) (take (2 ^ depth w) back)
+  pub wired : Wired w forward back

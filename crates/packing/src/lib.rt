@@ -7,10 +7,10 @@ ghost use Rattle.network.specs.Setting.{setting};
 ghost use Rattle.network.specs.Steps.{Inverses};
 ghost use Rattle.network.specs.Calls.{Sized};
 ghost use Rattle.bits.specs.Writing.{Open, placeOf, wholeOf};
-ghost use Rattle.tables.specs.Terms.{Dims, cycles, fileLength};
+ghost use Rattle.tables.specs.Terms.{Dims, depth, fileLength};
 ghost use Rattle.tables.specs.Format.{shapeOf};
 ghost use Rattle.tables.specs.Generated.{numberAt};
-ghost use Rattle.packing.specs.Packing.{putFields, putHeader, putLine, putFilling, Blank, Planned, Ready};
+ghost use Rattle.packing.specs.Packing.{putFields, putHeader, putLine, putFilling, Blank, Planned, Wired, Ready};
 use bits::Writer;
 use tables::Shape;
 
@@ -124,31 +124,47 @@ fn set_switches(forward: &[u8], back: &[u8], switches: &mut [u8], count: usize)
     network::set_bits(forward, back, &mut switches[..count]);
 }
 
-// Line t. Its switch bits are set in `switches` before they are packed.
-pub fn put_line(
+// The bits of a line's network, which are set in `switches` before they are packed. A network of one line has none.
+fn put_switches(
     file: &mut [u8],
+    writer: Writer,
     shape: Shape,
-    t: usize,
-    reads: &[u16],
     forward: &[u8],
     back: &[u8],
-    writes: &[u16],
     switches: &mut [u8],
-)
-    requires { ⌜ (Dims (shape .words) (shape .width)) × (shape ≡ shapeOf (shape .words) (shape .width)) × (t < cycles (shape .words) (shape .width)) ⌝ }
-    requires { ⌜ (fileLength (shape .words) (shape .width) ≤ length (now file)) × (length (now switches) ≡ 321) ⌝ }
-    requires { ⌜ Ready (shape .words) (shape .width) (now reads) (now forward) (now back) (now writes) ⌝ }
-    ensures { λ _. ⌜ (now (file .exit) ≡ putLine (shape .words) (shape .width) (now (file .entry)) t (now (reads .entry)) (now (forward .entry)) (now (writes .entry))) × (length (now (switches .exit)) ≡ 321) ⌝ }
+) -> Writer
+    requires { ⌜ (Dims (shape .words) (shape .width)) × (shape ≡ shapeOf (shape .words) (shape .width)) × Wired (shape .width) (now forward) (now back) ⌝ }
+    requires { ⌜ Open writer × (placeOf writer + shape .switches ≤ 8 * length (now file)) × (length (now switches) ≡ 321) ⌝ }
+    ensures { λ r. ⌜ Open r × (placeOf r ≡ placeOf writer + shape .switches) × (wholeOf (now (file .exit)) r ≡ putFields (wholeOf (now (file .entry)) writer) (placeOf writer) 1 (setting (depth (shape .width)) (λ x. getD (now (forward .entry)) x 0)) (shape .switches)) × (length (now (switches .exit)) ≡ 321) ⌝ }
 {
+    if shape.switches == 0 {
+        return writer;
+    }
     set_switches(
         &forward[..shape.lines],
         &back[..shape.lines],
         switches,
         shape.switches,
     );
-    let start = bits::writer_at(file, shape.start + t * shape.stride);
-    let read = put_addresses(file, start, shape.address, reads, shape.width);
-    let set = put_bits(file, read, &switches[..shape.switches]);
-    let written = put_addresses(file, set, shape.address, writes, shape.width);
-    bits::finish(file, written);
+    put_bits(file, writer, &switches[..shape.switches])
+}
+
+// The next line.
+pub fn put_line(
+    file: &mut [u8],
+    writer: Writer,
+    shape: Shape,
+    reads: &[u16],
+    forward: &[u8],
+    back: &[u8],
+    writes: &[u16],
+    switches: &mut [u8],
+) -> Writer
+    requires { ⌜ (Dims (shape .words) (shape .width)) × (shape ≡ shapeOf (shape .words) (shape .width)) × Ready (shape .words) (shape .width) (now reads) (now forward) (now back) (now writes) ⌝ }
+    requires { ⌜ Open writer × (placeOf writer + shape .stride ≤ 8 * length (now file)) × (length (now switches) ≡ 321) ⌝ }
+    ensures { λ r. ⌜ Open r × (placeOf r ≡ placeOf writer + shape .stride) × (wholeOf (now (file .exit)) r ≡ putLine (shape .words) (shape .width) (wholeOf (now (file .entry)) writer) (placeOf writer) (now (reads .entry)) (now (forward .entry)) (now (writes .entry))) × (length (now (switches .exit)) ≡ 321) ⌝ }
+{
+    let read = put_addresses(file, writer, shape.address, reads, shape.width);
+    let set = put_switches(file, read, shape, forward, back, switches);
+    put_addresses(file, set, shape.address, writes, shape.width)
 }

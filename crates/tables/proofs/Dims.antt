@@ -1,9 +1,9 @@
 -- Valid dimensions, and the numbers that they determine: c times w is n, 2 ^ a is at least c and a at most 12, the network has w lines or
 -- more and at most 64, and the whole set is far from any overflow. `logUp` is the first power of two that is large enough, found by search.
 use Prim.Native.Nat.{ℕ, zero, suc, _+_, _*_, _/_, _%_, _^_, _<_, _≤_}
-use mathlib.Core.Path.{_≡_, refl, sym, ap, _∙_}
+use mathlib.Core.Path.{_≡_, sym, ap, _∙_}
 use native.Mathlib.Omega.{arith}
-use native.Mathlib.Decide.{decLe, ℕ-discrete}
+use native.Mathlib.Decide.{ℕ-discrete}
 use native.Mathlib.Nat.{div-add-mod', div-le-self, mul-le-mul, mul-le-mul-right, pow-suc, pow-le-pow-right, zero-mul, suc-mul, div-lt-iff-lt-mul}
 use lib.Arith.{digits-lt, digits-div, digits-mod}
 use lib.Pow.{pow-pos}

@@ -16,17 +16,11 @@ use Rattle.bits.proofs.Digits.{digit-zero, digits-ext}
 use Rattle.bits.proofs.Fields.{bit-byte, putField-bytes, length-putField, bit-putField-inside, bit-putField-outside}
 use Rattle.tables.specs.Terms.{fileLength}
 use Rattle.tables.specs.Generated.{Schedule, setBits, setOf}
+pub use Rattle.tables.specs.Generated.{Written}
 use Rattle.tables.proofs.Dims.{Dims}
 use Rattle.tables.proofs.Packed.{getD-behind}
 use Rattle.tables.proofs.SetBits.{digit-none, length-setOf}
 use Rattle.tables.proofs.ReadsBack.{setOf-bytes, bit-setOf}
-
--- the file holds the bits below position x, over a buffer that was `before`
-pub record Written (bits before file : List ℕ) (x : ℕ) : Type 0 where
-  pub long : length file ≡ length before
-  pub bytes : Bytes file
-  pub front : (i : ℕ) → i < x → bit file i ≡ getD bits i 0
-  pub behind : (i : ℕ) → x ≤ i → bit file i ≡ bit before i
 
 module _ {bits before : List ℕ} where
   pub written-none : Bytes before → Written bits before before 0

@@ -1,12 +1,12 @@
 -- The set that given read lines determine: "w read addresses, B switch bits, w write addresses" in each line, with the rule's switch
 -- bits for the line's permutation, and the writes that the permutation gives. `reads t b` is the address that bank b reads in line t.
-use Prim.Native.Nat.{ℕ, zero, suc, _+_, _*_, _-_, _/_, _%_, _<_}
+use Prim.Native.Nat.{ℕ, zero, suc, _+_, _*_, _-_, _/_, _%_, _<_, _≤_}
 use mathlib.Core.Path.{_≡_}
 use mathlib.Core.List.{List, [], _++_}
 use lib.ListN.{length, getD}
 use Rattle.laws.specs.Tabulate.{tabulate}
 use Rattle.laws.specs.Permutation.{Injective, Permutes, inverse}
-use Rattle.bits.specs.Bits.{digit}
+use Rattle.bits.specs.Bits.{Bytes, bit, digit}
 use Rattle.network.specs.Carried.{carried}
 use Rattle.network.specs.Setting.{setting}
 use Rattle.tables.specs.Terms.{cycles, addressBits, depth}
@@ -59,3 +59,10 @@ packed bits = tabulate ((length bits + 7) / 8) (λ j. numberAt bits (8 * j) 8)
 -- the file
 unfoldable pub setOf : ℕ → ℕ → (ℕ → ℕ) → (ℕ → ℕ → ℕ) → List ℕ
 setOf n w p reads = packed (setBits n w p reads)
+
+-- the file holds the bits below position x, over a buffer that was `before`
+pub record Written (bits before file : List ℕ) (x : ℕ) : Type 0 where
+  pub long : length file ≡ length before
+  pub bytes : Bytes file
+  pub front : (i : ℕ) → i < x → bit file i ≡ getD bits i 0
+  pub behind : (i : ℕ) → x ≤ i → bit file i ≡ bit before i
