@@ -31,14 +31,13 @@ int main(void) {
         for (size_t port = 0; port < W; port++) {
             words[port] = (uint16_t)(100 * (step / (N / W)) + step % (N / W) * W + port);
         }
-        rughtena_step_answer answer =
-            rughtena_step(file, made.value, clock, first, 2 * N, second, 2 * N, words, W, out, W);
+        rughtena_answer answer =
+            rughtena_step(file, made.value, &clock, first, 2 * N, second, 2 * N, words, W, out, W);
         if (answer.number != 0) {
-            printf("refused %zu at %zu\n", answer.number, answer.place);
+            printf("refused %zu at %zu\n", answer.number, answer.value);
             return 1;
         }
-        clock = answer.clock;
-        if (answer.wrote) {
+        if (answer.value == 1) {
             printf("%u %u %u\n", out[0], out[1], out[2]);
         } else {
             printf("filling\n");

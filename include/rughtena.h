@@ -63,22 +63,12 @@ typedef struct {
     size_t width;
 } rughtena_read_answer;
 
-/* A clock; all zero before the first step. */
+/* A clock; all zero before the first step. An accepted step moves it on, a refused one leaves it. */
 typedef struct {
     size_t cycle;
     size_t half;
     size_t fill;
 } rughtena_clock;
-
-/* number 0: accepted, with place 0; `wrote` is 1 if w words were written and 0 while the card fills; `clock` is the next clock.
- * Otherwise a refusal's number and place, `wrote` 0, and `clock` is the clock that was given. So `clock` is always the one to go on
- * with. */
-typedef struct {
-    size_t number;
-    size_t place;
-    size_t wrote;
-    rughtena_clock clock;
-} rughtena_step_answer;
 
 /* Generates a table set for the permutation of n words that the first n images give.
  * Lent: n images, read; the file's length in bytes, written; 4n + 1,024 scratch words, of which the first n are written.
@@ -103,13 +93,14 @@ rughtena_answer rughtena_set(size_t width, const uint16_t *images, size_t images
 rughtena_answer rughtena_follow(size_t width, const uint8_t *values, size_t values_len, size_t line);
 
 /* One step of the cycle machine on a table set; file_len is exactly its length.
- * Lent: two memories of 2n words, written; exactly w entering words, read; w output words, written once the card is full. Later words
- * of all three stay. The memories may hold anything before the first step and belong to the card from then on.
+ * Lent: the clock, written; two memories of 2n words, written; exactly w entering words, read; w output words, written once the card is
+ * full. Later words of all three stay. The memories may hold anything before the first step and belong to the card from then on.
+ * Gives 1 if w words were written, and 0 while the card fills.
  * Refuses 6, 7, 6, 8, 12, 13, 14 and, with fill 1 or more, 9, 10 and 11 for the line of this cycle (addresses out of range only:
  * repeated ones are found by rughtena_read). */
-rughtena_step_answer rughtena_step(const uint8_t *file, size_t file_len, rughtena_clock clock, uint16_t *first,
-                                   size_t first_len, uint16_t *second, size_t second_len, const uint16_t *words,
-                                   size_t words_len, uint16_t *out, size_t out_len);
+rughtena_answer rughtena_step(const uint8_t *file, size_t file_len, rughtena_clock *clock, uint16_t *first,
+                              size_t first_len, uint16_t *second, size_t second_len, const uint16_t *words,
+                              size_t words_len, uint16_t *out, size_t out_len);
 
 #ifdef __cplusplus
 }

@@ -34,7 +34,7 @@ static void follow(void) { rughtena_follow(64, values, sizeof values, 5); }
 
 static void step(void) {
     rughtena_clock clock = {0, 0, 2};
-    rughtena_step(file, length, clock, first, 2 * N, second, 2 * N, words, width, out, 64);
+    rughtena_step(file, length, &clock, first, 2 * N, second, 2 * N, words, width, out, 64);
 }
 
 static void *run(void *call) {

@@ -41,14 +41,6 @@ struct ReadAnswer {
     width: usize,
 }
 
-#[repr(C)]
-struct StepAnswer {
-    number: usize,
-    place: usize,
-    wrote: usize,
-    clock: Clock,
-}
-
 extern "C" {
     fn rughtena_generate(
         n: usize,
@@ -79,7 +71,7 @@ extern "C" {
     fn rughtena_step(
         file: *const u8,
         file_len: usize,
-        clock: Clock,
+        clock: *mut Clock,
         first: *mut u16,
         first_len: usize,
         second: *mut u16,
@@ -88,7 +80,7 @@ extern "C" {
         words_len: usize,
         out: *mut u16,
         out_len: usize,
-    ) -> StepAnswer;
+    ) -> Answer;
 }
 
 #[inline]
@@ -181,12 +173,12 @@ pub fn step(
     words: &[u16],
     out: &mut [u16],
 ) -> Result<Said, Refusal> {
-    // SAFETY: each pointer comes from a slice of the length beside it.
-    let answer = unsafe {
+    // SAFETY: each pointer comes from a slice of the length beside it, or from the clock.
+    let wrote = value(unsafe {
         rughtena_step(
             file.as_ptr(),
             file.len(),
-            *clock,
+            clock,
             first.as_mut_ptr(),
             first.len(),
             second.as_mut_ptr(),
@@ -196,14 +188,10 @@ pub fn step(
             out.as_mut_ptr(),
             out.len(),
         )
-    };
-    *clock = answer.clock;
-    match (answer.number, answer.wrote) {
-        (0, 0) => Ok(Said::Filling),
-        (0, _) => Ok(Said::Wrote),
-        (number, _) => Err(Refusal {
-            number,
-            place: answer.place,
-        }),
-    }
+    })?;
+    Ok(if wrote == 0 {
+        Said::Filling
+    } else {
+        Said::Wrote
+    })
 }

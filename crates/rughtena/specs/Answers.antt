@@ -1,5 +1,7 @@
 -- The answers of the calls as integers: number 0 and the values of document 01, or a refusal's number and place.
 use Prim.Native.Nat.{ℕ}
+use mathlib.Core.List.{List}
+use lib.ListN.{getD, set}
 use Rattle.refusal.specs.Refusals.{numberOf, placeOf}
 use Rattle.refusal.specs.declared.Refusal.{Refusal}
 use Rattle.generator.specs.declared.Generation.{Generation}
@@ -14,9 +16,7 @@ use Rattle.machine.specs.declared.Clock.{Clock}
 use Rattle.machine.specs.declared.Stepped.{Stepped}
 use Rattle.machine.specs.declared.Stepped.the-variants.{Filling, Wrote, Refused as Unstepped}
 use Rattle.rughtena.specs.declared.Answer.{Answer}
-use Rattle.rughtena.specs.declared.CardClock.{CardClock}
 use Rattle.rughtena.specs.declared.ReadAnswer.{ReadAnswer}
-use Rattle.rughtena.specs.declared.StepAnswer.{StepAnswer}
 
 -- a refusal's number and place
 unfoldable pub refusalAnswer : Refusal → Answer
@@ -42,15 +42,15 @@ unfoldable pub readingAnswer : Reading → ReadAnswer
 readingAnswer (Read n w) = record { number = 0; place = 0; words = n; width = w }
 readingAnswer (Unread r) = record { number = numberOf r; place = placeOf r; words = 0; width = 0 }
 
--- a clock, from C and to C
-unfoldable pub clockOf : CardClock → Clock
-clockOf clock = record { cycle = clock .cycle; half = clock .half; fill = clock .fill }
+-- a step: `filling` is 0, that w words were written is 1
+unfoldable pub steppedAnswer : Stepped → Answer
+steppedAnswer (Filling next) = record { number = 0; value = 0 }
+steppedAnswer (Wrote next) = record { number = 0; value = 1 }
+steppedAnswer (Unstepped r) = refusalAnswer r
 
-unfoldable pub cardClockOf : Clock → CardClock
-cardClockOf clock = record { cycle = clock .cycle; half = clock .half; fill = clock .fill }
+-- a clock in three lent numbers: the cycle, the half, the fill
+unfoldable pub clockOf : List ℕ → Clock
+clockOf numbers = record { cycle = getD numbers 0 0; half = getD numbers 1 0; fill = getD numbers 2 0 }
 
--- a step: `filling` is 0, that w words were written is 1; a refused step gives back the clock that it was given
-unfoldable pub steppedAnswer : CardClock → Stepped → StepAnswer
-steppedAnswer clock (Filling next) = record { number = 0; place = 0; wrote = 0; clock = cardClockOf next }
-steppedAnswer clock (Wrote next) = record { number = 0; place = 0; wrote = 1; clock = cardClockOf next }
-steppedAnswer clock (Unstepped r) = record { number = numberOf r; place = placeOf r; wrote = 0; clock = clock }
+unfoldable pub putClock : List ℕ → Clock → List ℕ
+putClock numbers clock = set (set (set numbers 0 (clock .cycle)) 1 (clock .half)) 2 (clock .fill)

@@ -1,10 +1,9 @@
 // The core's answers as integers.
 ghost use mathlib.Core.Path.{_≡_};
-ghost use Rattle.rughtena.specs.Answers.{refusalAnswer, lineAnswer, settingAnswer, readingAnswer, generationAnswer, cardClockOf, steppedAnswer};
+ghost use Rattle.machine.specs.Machine.{clockAfter};
+ghost use Rattle.rughtena.specs.Answers.{refusalAnswer, lineAnswer, settingAnswer, readingAnswer, generationAnswer, clockOf, putClock, steppedAnswer};
 use crate::Answer;
-use crate::CardClock;
 use crate::ReadAnswer;
-use crate::StepAnswer;
 use generator::Generation;
 use machine::Clock;
 use machine::Stepped;
@@ -84,39 +83,39 @@ pub fn of_reading(core: Reading) -> ReadAnswer
     }
 }
 
-// A clock of the machine as one for C.
-fn of_clock(clock: Clock) -> CardClock
-    ensures { λ r. ⌜ r ≡ cardClockOf clock ⌝ }
+// Whether words were written, or the refusal.
+pub fn of_step(core: Stepped) -> Answer
+    ensures { λ r. ⌜ r ≡ steppedAnswer core ⌝ }
 {
-    CardClock {
-        cycle: clock.cycle,
-        half: clock.half,
-        fill: clock.fill,
+    match core {
+        Stepped::Filling(_) => Answer {
+            number: 0,
+            value: 0,
+        },
+        Stepped::Wrote(_) => Answer {
+            number: 0,
+            value: 1,
+        },
+        Stepped::Refused(refusal) => of_refusal(refusal),
     }
 }
 
-// The answer of a step that was given `clock`.
-pub fn of_step(clock: CardClock, core: Stepped) -> StepAnswer
-    ensures { λ r. ⌜ r ≡ steppedAnswer clock core ⌝ }
+// A clock's numbers.
+fn put_clock(numbers: &mut [usize; 3], clock: Clock)
+    ensures { λ _. ⌜ now (numbers .exit) ≡ putClock (now (numbers .entry)) clock ⌝ }
+{
+    numbers[0] = clock.cycle;
+    numbers[1] = clock.half;
+    numbers[2] = clock.fill;
+}
+
+// The numbers of a clock after a step: those of the next one, or after a refusal the same.
+pub fn move_on(numbers: &mut [usize; 3], core: Stepped)
+    ensures { λ _. ⌜ now (numbers .exit) ≡ putClock (now (numbers .entry)) (clockAfter core (clockOf (now (numbers .entry)))) ⌝ }
 {
     match core {
-        Stepped::Filling(next) => StepAnswer {
-            number: 0,
-            place: 0,
-            wrote: 0,
-            clock: of_clock(next),
-        },
-        Stepped::Wrote(next) => StepAnswer {
-            number: 0,
-            place: 0,
-            wrote: 1,
-            clock: of_clock(next),
-        },
-        Stepped::Refused(refusal) => StepAnswer {
-            number: refusal.number(),
-            place: refusal.place(),
-            wrote: 0,
-            clock,
-        },
+        Stepped::Filling(next) => put_clock(numbers, next),
+        Stepped::Wrote(next) => put_clock(numbers, next),
+        Stepped::Refused(_) => {}
     }
 }

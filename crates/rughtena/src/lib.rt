@@ -8,8 +8,9 @@ ghost use Rattle.tables.specs.declared.Reading.{Reading};
 ghost use Rattle.generator.specs.Generating.{Generates};
 ghost use Rattle.generator.specs.declared.Generation.{Generation};
 ghost use Rattle.machine.specs.Step.{stepOf, outcome as stepOutcome};
+ghost use Rattle.machine.specs.Machine.{clockAfter};
 ghost use Rattle.machine.specs.declared.Stepped.{Stepped};
-ghost use Rattle.rughtena.specs.Answers.{refusalAnswer, lineAnswer, settingAnswer, readingAnswer, generationAnswer, clockOf, cardClockOf, steppedAnswer};
+ghost use Rattle.rughtena.specs.Answers.{refusalAnswer, lineAnswer, settingAnswer, readingAnswer, generationAnswer, clockOf, putClock, steppedAnswer};
 
 mod answers;
 
@@ -34,24 +35,6 @@ pub struct ReadAnswer {
     pub place: usize,
     pub words: usize,
     pub width: usize,
-}
-
-// A clock; a fresh one is all zero.
-#[repr(C)]
-pub struct CardClock {
-    pub cycle: usize,
-    pub half: usize,
-    pub fill: usize,
-}
-
-// An accepted step has number and place 0, 1 if words were written and else 0 (`filling`), and the next clock. A refused one has the
-// clock that it was given.
-#[repr(C)]
-pub struct StepAnswer {
-    pub number: usize,
-    pub place: usize,
-    pub wrote: usize,
-    pub clock: CardClock,
 }
 
 // Generating a table set; the value is the file's length in bytes.
@@ -92,22 +75,25 @@ pub extern "C" fn rughtena_follow(width: usize, values: &[u8], line: usize) -> A
     answers::of_line(follow(width, values, line))
 }
 
-// One step of the cycle machine.
+// One step of the cycle machine; the value is 1 if words were written and 0 while the card fills. The lent clock has the three numbers of
+// a clock: the cycle, the half and the fill. It is lent, since an answer that holds it would be copied once more by each caller.
 #[no_mangle]
 pub extern "C" fn rughtena_step(
     file: &[u8],
-    clock: CardClock,
+    clock: &mut [usize; 3],
     first: &mut [u16],
     second: &mut [u16],
     words: &[u16],
     out: &mut [u16],
-) -> StepAnswer
-    ensures { λ r. ⌜ ((core : Stepped) × (r ≡ steppedAnswer clock core) × (stepOutcome core (now (first .exit)) (now (second .exit)) (now (out .exit)) ≡ stepOf (now (file .entry)) (clockOf clock) (now (first .entry)) (now (second .entry)) (now (words .entry)) (now (out .entry)))) ⌝ }
+) -> Answer
+    ensures { λ r. ⌜ ((core : Stepped) × (r ≡ steppedAnswer core) × (now (clock .exit) ≡ putClock (now (clock .entry)) (clockAfter core (clockOf (now (clock .entry))))) × (stepOutcome core (now (first .exit)) (now (second .exit)) (now (out .exit)) ≡ stepOf (now (file .entry)) (clockOf (now (clock .entry))) (now (first .entry)) (now (second .entry)) (now (words .entry)) (now (out .entry)))) ⌝ }
 {
     let given = Clock {
-        cycle: clock.cycle,
-        half: clock.half,
-        fill: clock.fill,
+        cycle: clock[0],
+        half: clock[1],
+        fill: clock[2],
     };
-    answers::of_step(clock, step(file, given, first, second, words, out))
+    let stepped = step(file, given, first, second, words, out);
+    answers::move_on(clock, stepped);
+    answers::of_step(stepped)
 }

@@ -1,12 +1,24 @@
--- `rughtena_step` meets its contract: the core answers for the same clock, and the answer is put into integers.
-use mathlib.Core.Path.{_≡_, refl, sym, ap, _∙_}
+-- `rughtena_step` meets its contract: the core answers for the lent clock, the clock is moved on as the answer says, and the answer is put
+-- into integers.
 use borrow.Author.Needs.{needs}
 use Rattle.rughtena.specs.Answers.{clockOf}
 use Rattle.rughtena.proofs.rughtena_step.Statement.{statement}
 use Rattle.rughtena.proofs.rughtena_step.Tie as tie
 
+element-copy-out-t11 : tie.Need-element-copy-out-t11
+element-copy-out-t11 c = search needs
+
+element-copy-out-t14 : tie.Need-element-copy-out-t14
+element-copy-out-t14 c = search needs
+
+element-copy-out-t17 : tie.Need-element-copy-out-t17
+element-copy-out-t17 c = search needs
+
 step-requires : tie.Need-step-requires
 step-requires c κs = search needs
+
+move-on-requires : tie.Need-move-on-requires
+move-on-requires c κs = search needs
 
 of-step-requires : tie.Need-of-step-requires
 of-step-requires c κs = search needs
@@ -22,9 +34,19 @@ same-length-3 c = search needs
 
 returns : tie.Need-returns
 unfolding clockOf
-returns c = (c .before .before .before .before .before .before .before .step .result, c .of-step .ensures, c .before .before .before .before .before .before .before .step .ensures)
+returns c = let call = c .before .before .before .before .before .before .before .before .before .step in (call .result, c .of-step .ensures, c .before .move-on .ensures, call .ensures)
 
 pub rughtena-step-spec : {M : Type 1} → statement M
 rughtena-step-spec =
     tie.close
-    (tie.spec step-requires of-step-requires same-length same-length-2 same-length-3 returns)
+    (tie.spec
+    element-copy-out-t11
+    element-copy-out-t14
+    element-copy-out-t17
+    step-requires
+    move-on-requires
+    of-step-requires
+    same-length
+    same-length-2
+    same-length-3
+    returns)

@@ -1,0 +1,2 @@
+-- What a step leaves of a lent clock.
+mod Clocks
