@@ -4,14 +4,14 @@
 use Prim.Native.Nat.{ℕ, zero, suc, _+_, _-_, _*_, _/_, _%_, _^_, _<_, _≤_}
 use mathlib.Core.List.{List}
 use mathlib.Core.Logic.{_≢_, _⊎_, inl, inr, ⊎-elim}
-use mathlib.Core.Path.{_≡_, refl, sym, ap₂, _∙_}
+use mathlib.Core.Path.{_≡_, refl, sym, ap, ap₂, _∙_}
 use native.Mathlib.Decide.{ℕ-discrete, decLt}
 use native.Mathlib.Nat.{add-suc, add-zero, mod-eq-of-lt, mod-one, mul-assoc, pow-suc, zero-div}
 use native.Mathlib.Numerals.{add-one}
 use native.Mathlib.Omega.{arith}
-use lib.ListN.{length, getD, set, length-set, List·getD-eq-default}
+use lib.ListN.{length, getD, set, take, length-set, List·getD-eq-default}
 use lib.Pow.{mod-pow-add}
-use lib.Seq.{ext-getD, getD-set-same, getD-set-other, set-out}
+use lib.Seq.{ext-getD, getD-take, getD-set-same, getD-set-other, set-out}
 use Rattle.bits.specs.Bits.{Bytes, digit, withDigits, bit, field, putBit, putField}
 use Rattle.bits.proofs.Digits.{digit-lt, digit-zero, digit-div, digits-ext, digit-withDigits-inside}
 use Rattle.bits.proofs.Digits.{digit-withDigits-below, digit-withDigits-above, withDigits-lt}
@@ -83,6 +83,13 @@ unfolding field
 field-cong xs ys at zero same = refl
 field-cong xs ys at (suc w) same =
     ap₂ (λ (hi lo : ℕ). hi * 2 + lo) (field-cong xs ys at w (λ j h. same j (omega arith))) (same w (omega arith))
+
+-- A field that ends within the first k bytes is one of theirs.
+pub field-take : (k : ℕ) (xs : List ℕ) (at w : ℕ) → at + w ≤ 8 * k → field (take k xs) at w ≡ field xs at w
+unfolding bit
+field-take k xs at w inside =
+    field-cong (take k xs) xs at w
+    (λ j h. ap (λ (x : ℕ). digit x (7 - (at + j) % 8)) (getD-take k xs ((at + j) / 8) 0 (omega arith)))
 
 -- A field whose bits are the w lowest digits of v is v % 2^w.
 pub field-digits : (xs : List ℕ) (at w v : ℕ) → ((j : ℕ) → j < w → bit xs (at + j) ≡ digit v (w - suc j))

@@ -30,7 +30,7 @@ use Rattle.tables.proofs.ReadsBack.{setOf-performs}
 module _ (file images scratch : List ℕ) where
   -- ---- from the tests of the form to the lines
 
-  read-unopened : (r : Refusal) → openOf file ≡ Refused r → readOf file images scratch ≡ outcome (Unread r) images
+  pub read-unopened : (r : Refusal) → openOf file ≡ Refused r → readOf file images scratch ≡ outcome (Unread r) images
   unfolding readOf readOpened
   read-unopened r h = rw h refl
 

@@ -9,6 +9,8 @@ pub mod Targets
 pub mod Within
 pub mod Performs
 pub mod Exact
+-- That a file longer than every set is read as its front is.
+pub mod Cut
 -- The set that given read lines determine: where its bits stand, and that it reads back.
 pub mod Packed
 pub mod SetBits

@@ -1,0 +1,78 @@
+-- A file may be cut behind 12,292 bytes or more: what is left opens and reads as the whole does. The longest set has 12,291 bytes, so a
+-- longer file is refused in opening, by its header (7) or by its length (8); and the header lies in the first three bytes.
+use Prim.Native.Nat.{ℕ, _%_, _≤_}
+use mathlib.Core.Path.{_≡_, refl, sym, ap, _∙_}
+use mathlib.Core.List.{List}
+use mathlib.Core.Logic.{⊎-elim}
+use native.Mathlib.Omega.{arith}
+use native.Mathlib.Decide.{decLe}
+use lib.ListN.{length, take}
+use lib.Seq.{length-take-le, take-all}
+use Rattle.laws.proofs.Choices.{ifLt-no, ifLt-yes, ifLt-both, ifEq-both}
+use Rattle.bits.proofs.Fields.{field-take}
+use Rattle.refusal.specs.declared.Refusal.the-variants.{FileLong}
+use Rattle.tables.specs.Terms.{fileLength}
+use Rattle.tables.specs.Format.{headerWords, headerWidth, headerZeros, limitTest, headerTest, lengthTest, openOf}
+use Rattle.tables.specs.Reading.{readOf}
+use Rattle.tables.specs.declared.Opened.{Opened}
+use Rattle.tables.specs.declared.Opened.the-variants.{Refused}
+use Rattle.tables.proofs.Dims.{Dims}
+use Rattle.tables.proofs.Longest.{fileLength-longest}
+use Rattle.tables.proofs.Form.{open-cases}
+use Rattle.tables.proofs.Exact.{read-unopened}
+
+-- what follows the limits is asked for valid dimensions only
+limits-ext : (n w zeros : ℕ) (next other : Opened) → (Dims n w → next ≡ other) → limitTest n w zeros next ≡ limitTest n w zeros other
+limits-ext n w zeros next other same =
+    ifLt-both Same n 1 _ _ _ _ (λ _. refl) λ some.
+    ifLt-both Same 4096 n _ _ _ _ (λ _. refl) λ few.
+    ifLt-both Same w 1 _ _ _ _ (λ _. refl) λ wide.
+    ifLt-both Same 64 w _ _ _ _ (λ _. refl) λ narrow.
+    ifEq-both Same (n % w) 0 _ _ _ _ (λ even.
+    ifEq-both Same zeros 0 _ _ _ _ (λ _. same (record { some = some; few = few; wide = wide; narrow = narrow; even = even })) (λ _. refl))
+    (λ _. refl)
+  where
+    Same : Opened → Opened → Type 0
+    Same x y = x ≡ y
+
+-- a file longer than every set is judged by its header alone
+open-beyond : (file : List ℕ) → 12292 ≤ length file → openOf file ≡ headerTest file (Refused FileLong)
+unfolding openOf headerTest lengthTest
+open-beyond file long =
+    sym (ifLt-no (length file) 3 _ _ _ (omega arith) (limits-ext n w (headerZeros file) (Refused FileLong) _ beyond))
+  where
+    n : ℕ
+    n = headerWords file
+
+    w : ℕ
+    w = headerWidth file
+
+    beyond : Dims n w → Refused FileLong ≡ lengthTest n w file
+    beyond D =
+        let short : fileLength n w ≤ 12291 = fileLength-longest D in
+        ifLt-no (length file) (fileLength n w) _ _ _ (omega arith)
+        (ifLt-yes (fileLength n w) (length file) _ _ _ (omega arith) refl)
+
+-- the header lies in the first three bytes
+header-cut : (file : List ℕ) (k : ℕ) (next : Opened) → 3 ≤ k → headerTest (take k file) next ≡ headerTest file next
+unfolding headerTest headerWords headerWidth headerZeros
+header-cut file k next l =
+    rw (field-take k file 0 13 (omega arith), field-take k file 13 7 (omega arith), field-take k file 20 4 (omega arith)) refl
+
+module _ (file : List ℕ) (k : ℕ) (l : 12292 ≤ k) where
+  pub open-cut : openOf (take k file) ≡ openOf file
+  open-cut = elim (decLe (length file) k) [
+    | yes whole ↦ ap openOf (take-all k file whole)
+    | no longer ↦
+        let left : length (take k file) ≡ k = length-take-le k file (omega arith) in
+        open-beyond (take k file) (omega arith) ∙ header-cut file k (Refused FileLong) (omega arith) ∙ sym (open-beyond file (omega arith))
+  ]
+
+  pub read-cut : (images scratch : List ℕ) → readOf (take k file) images scratch ≡ readOf file images scratch
+  read-cut images scratch = elim (decLe (length file) k) [
+    | yes whole ↦ ap (λ (z : List ℕ). readOf z images scratch) (take-all k file whole)
+    | no longer ↦
+        ⊎-elim (λ F. absurd (omega (arith, F .1 .long, fileLength-longest (F .1 .dims))))
+        (λ r. read-unopened (take k file) images scratch (r .0) (open-cut ∙ r .1) ∙ sym (read-unopened file images scratch (r .0) (r .1)))
+        (open-cases file)
+  ]
