@@ -13,7 +13,7 @@ use lib.ListN.{length, getD, set, take, length-set, List·getD-eq-default}
 use lib.Pow.{mod-pow-add}
 use lib.Seq.{ext-getD, getD-take, getD-set-same, getD-set-other, set-out}
 use Rattle.bits.specs.Bits.{Bytes, digit, withDigits, bit, field, putBit, putField}
-use Rattle.bits.proofs.Digits.{digit-lt, digit-zero, digit-div, digits-ext, digit-withDigits-inside}
+use Rattle.bits.proofs.Digits.{digit-lt, digit-zero, digit-div, digit-high, digits-ext, digit-withDigits-inside}
 use Rattle.bits.proofs.Digits.{digit-withDigits-below, digit-withDigits-above, withDigits-lt}
 
 -- ---- bits
@@ -90,6 +90,17 @@ unfolding bit
 field-take k xs at w inside =
     field-cong (take k xs) xs at w
     (λ j h. ap (λ (x : ℕ). digit x (7 - (at + j) % 8)) (getD-take k xs ((at + j) / 8) 0 (omega arith)))
+
+-- The bits of a field are its digits.
+pub bit-field : (xs : List ℕ) (at w j : ℕ) → j < w → bit xs (at + j) ≡ digit (field xs at w) (w - suc j)
+unfolding field
+bit-field xs at zero j l = absurd (omega arith)
+bit-field xs at (suc w) j l = elim (ℕ-discrete j w) [
+  | yes e ↦ let z : suc w - suc w ≡ 0 = omega arith in rw (e, z, digit-zero) (omega (arith, bit-lt xs (at + w)))
+  | no ne ↦
+      let s : suc w - suc j ≡ 1 + (w - suc j) = omega arith in
+      rw s (bit-field xs at w j (omega arith) ∙ sym (digit-high (field xs at w) 1 (w - suc j) (bit-lt xs (at + w))))
+]
 
 -- A field whose bits are the w lowest digits of v is v % 2^w.
 pub field-digits : (xs : List ℕ) (at w v : ℕ) → ((j : ℕ) → j < w → bit xs (at + j) ≡ digit v (w - suc j))

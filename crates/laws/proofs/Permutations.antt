@@ -1,5 +1,6 @@
 -- Laws of permutations of 0 .. n - 1. An injective map into itself meets every number (pigeonhole), so its inverse, which is found by
--- search, is one on both sides and a permutation too. A sum over a permutation is the sum.
+-- search, is one on both sides and a permutation too. A map that meets every number is a permutation, since its inverse is one. A sum
+-- over a permutation is the sum.
 use Prim.Native.Nat.{ℕ, zero, suc, _+_, _*_, _<_}
 use mathlib.Core.Path.{_≡_, refl, ap, sym, subst, _∙_}
 use native.Mathlib.Nat.{mul-comm, mul-one}
@@ -81,3 +82,25 @@ module _ (n : ℕ) (f : ℕ → ℕ) (P : Permutes n f) where
       column y l =
           sum-ext n (λ i. is (f i) y * g y) (λ i. g y * is (f i) y) (λ i m. mul-comm (is (f i) y) (g y)) ∙ sum-mul n (g y) (λ i. is (f i) y)
           ∙ ap (λ (z : ℕ). g y * z) (hits-one n f (P .below) (P .injective) y l) ∙ mul-one (g y)
+
+-- a map that meets every number below n permutes them
+pub met-permutes : (n : ℕ) (f : ℕ → ℕ) → ((y : ℕ) → y < n → 0 < hits n f y) → Permutes n f
+met-permutes n f met = record {
+  below = λ i l. rw (value i l) (back i l .1);
+  injective = λ i j l m e. sym (back i l .2) ∙ ap g (sym (value i l) ∙ e ∙ value j m) ∙ back j m .2;
+}
+  where
+    g : ℕ → ℕ
+    g = inverse n f
+
+    found : (y : ℕ) → y < n → (g y < n) × (f (g y) ≡ y)
+    found y l = let r = hits-positive n f y (met y l) in inverse-found n f y (r .0) (r .1) (r .2)
+
+    P : Permutes n g
+    P = record { below = λ y l. found y l .0; injective = λ x y l m e. sym (found x l .1) ∙ ap f e ∙ found y m .1 }
+
+    back : (i : ℕ) → i < n → (y : ℕ) × (y < n) × (g y ≡ i)
+    back i l = onto n g P i l
+
+    value : (i : ℕ) (l : i < n) → f i ≡ back i l .0
+    value i l = ap f (sym (back i l .2)) ∙ found (back i l .0) (back i l .1) .1

@@ -1,5 +1,5 @@
 -- Laws of tabulated lists and of filled prefixes. `overwrite-turn` is one turn of a loop that fills the front of a list, so the
--- invariant of such a loop is `out ≡ overwrite i f out₀`.
+-- invariant of such a loop is `out ≡ overwrite i f out₀`; or `Filling f size i out`, where what lies behind the front does not matter.
 use Prim.Native.Nat.{ℕ, zero, suc, _+_, _-_, _<_, _≤_}
 use mathlib.Core.Path.{_≡_, refl, sym, ap, ap₂, _∙_}
 use mathlib.Core.List.{List, [], _∷_, _++_, append-assoc, append-nil}
@@ -7,7 +7,7 @@ use native.Mathlib.Omega.{arith}
 use native.Mathlib.Numerals.{add-one}
 use native.Mathlib.Decide.{decLt}
 use native.Mathlib.Nat.{add-zero, add-suc}
-use lib.ListN.{length, take, drop, set, getD, length-append, length-drop, List·getD-append, List·getD-eq-default}
+use lib.ListN.{length, take, drop, set, getD, length-append, length-drop, length-set, List·getD-append, List·getD-eq-default}
 use lib.Seq.{getD-set-same, getD-set-other, drop-cons, set-at, append-snoc, getD-at, getD-drop, getD-append-add, ext-getD, take-at, drop-at}
 use Rattle.laws.specs.Tabulate.{tabulate, overwrite}
 
@@ -107,3 +107,15 @@ module _ {A : Type 0} where
     | yes m ↦ getD-set-other xs (g i) (g j) v d (apart j m) ∙ before j m
     | no m ↦ let q : j ≡ i = omega arith in rw q (getD-set-same xs (g i) v d here ∙ e)
   ]
+
+-- an array of `size` whose first j entries are f's
+pub record Filling (f : ℕ → ℕ) (size j : ℕ) (xs : List ℕ) : Type 0 where
+  pub long : length xs ≡ size
+  pub filled : (i : ℕ) → i < j → getD xs i 0 ≡ f i
+
+-- one turn of a loop that fills it
+pub filling-more : {f : ℕ → ℕ} {size j : ℕ} {xs : List ℕ} (v : ℕ) → Filling f size j xs → j < size → v ≡ f j → Filling f size (j + 1) (set xs j v)
+filling-more {f} {size} {j} {xs} v F l e = record {
+  long = length-set xs j v ∙ F .long;
+  filled = stored-turn xs (λ i. i) f j v 0 (omega (arith, F .long)) (λ i m q. omega arith) e (F .filled);
+}

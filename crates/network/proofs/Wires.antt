@@ -1,4 +1,4 @@
--- The loops of `set_inputs`, `set_outputs`, `narrow` and `invert`: each turn fills one place of each list, and what was filled before stays.
+-- The loops of `set_inputs`, `set_outputs` and `invert`: each turn fills one place of each list, and what was filled before stays.
 use Prim.Native.Nat.{ℕ, _+_, _*_, _-_, _/_, _%_, _<_, _≤_}
 use mathlib.Core.Path.{_≡_, refl, ap, _∙_}
 use mathlib.Core.List.{List}
@@ -48,17 +48,6 @@ module _ {bit : ℕ → ℕ} {from : ℕ} {images before : List ℕ} where
       → i ≡ 2 * n + (0 + bit n) % 2 → g ≡ 2 * n + (1 + bit n) % 2
       → Divided bit from n m images before after (set upper n (getD images i 0 / 2)) (set lower n (getD images g 0 / 2))
   divided-last D l em ei eg = rw em (record { bits = D .bits; above = picked-more (D .above) l ei; beneath = picked-more (D .beneath) l eg })
-
--- an array of `size` whose first j entries are f's
-pub record Filling (f : ℕ → ℕ) (size j : ℕ) (xs : List ℕ) : Type 0 where
-  pub long : length xs ≡ size
-  pub filled : (i : ℕ) → i < j → getD xs i 0 ≡ f i
-
-pub filling-more : {f : ℕ → ℕ} {size j : ℕ} {xs : List ℕ} (v : ℕ) → Filling f size j xs → j < size → v ≡ f j → Filling f size (j + 1) (set xs j v)
-filling-more {f} {size} {j} {xs} v F l e = record {
-  long = length-set xs j v ∙ F .long;
-  filled = stored-turn xs (λ i. i) f j v 0 (omega (arith, F .long)) (λ i m q. omega arith) e (F .filled);
-}
 
 -- one more entry of an inverse
 pub inverting-more : {forward back : List ℕ} {w i v : ℕ} → Permutes w (λ x. getD forward x 0) → w ≤ 64 → i < w → v ≡ getD forward i 0 → Inverting forward i back

@@ -1,7 +1,7 @@
 -- The loops that read lines: a scan that meets what it looks for, or passes it; and the eight switch bits that are taken at a time, whose
 -- digits are the bits themselves.
-use Prim.Native.Nat.{ℕ, zero, suc, _+_, _*_, _-_, _/_, _%_, _^_, _<_, _≤_}
-use mathlib.Core.Path.{_≡_, sym, _∙_}
+use Prim.Native.Nat.{ℕ, suc, _+_, _*_, _-_, _/_, _%_, _^_, _<_, _≤_}
+use mathlib.Core.Path.{_≡_, sym}
 use mathlib.Core.Bool.{true, false}
 use mathlib.Core.List.{List}
 use native.Mathlib.Omega.{arith}
@@ -12,8 +12,7 @@ use lib.ListN.{getD}
 use Rattle.laws.specs.Any.{any}
 use Rattle.laws.proofs.Anys.{any-none, any-some}
 use Rattle.bits.specs.Bits.{digit, bit, field}
-use Rattle.bits.proofs.Digits.{digit-zero, digit-high}
-use Rattle.bits.proofs.Fields.{bit-lt}
+use Rattle.bits.proofs.Fields.{bit-field}
 use Rattle.tables.specs.Lines.{spareUsed}
 
 -- ---- addresses
@@ -65,17 +64,6 @@ spare-all {sources} {width} {y} lines S l =
     sym (any-none (lines - width) _ (λ i m. le-ltb (getD sources (width + i) 0) width (S .each (width + i) (omega arith) (omega arith))))
 
 -- ---- bits
-
--- the bits of a field are its digits
-pub bit-field : (xs : List ℕ) (at w j : ℕ) → j < w → bit xs (at + j) ≡ digit (field xs at w) (w - suc j)
-unfolding field
-bit-field xs at zero j l = absurd (omega arith)
-bit-field xs at (suc w) j l = elim (ℕ-discrete j w) [
-  | yes e ↦ let z : suc w - suc w ≡ 0 = omega arith in rw (e, z, digit-zero) (omega (arith, bit-lt xs (at + w)))
-  | no ne ↦
-      let s : suc w - suc j ≡ 1 + (w - suc j) = omega arith in
-      rw s (bit-field xs at w j (omega arith) ∙ sym (digit-high (field xs at w) 1 (w - suc j) (bit-lt xs (at + w))))
-]
 
 -- where bit i stands among the eight that are taken at a time
 pub bit-eight : (xs : List ℕ) (at i eight : ℕ) → eight ≡ field xs (at + i / 8 * 8) 8 → eight / 2 ^ (7 - i % 8) % 2 ≡ bit xs (at + i)

@@ -4,7 +4,7 @@ use mathlib.Core.Path.{refl}
 use native.Mathlib.Omega.{arith}
 use borrow.Author.Needs.{needs}
 use lib.ListN.{getD, length-replicate}
-use Rattle.network.proofs.Wires.{Filling, filling-more}
+use Rattle.laws.proofs.Tabulates.{Filling, filling-more}
 use Rattle.network.proofs.setting.narrow.Statement.{statement}
 use Rattle.network.proofs.setting.narrow.Tie as tie
 

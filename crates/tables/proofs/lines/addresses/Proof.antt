@@ -4,8 +4,8 @@ use mathlib.Core.Path.{sym, _∙_}
 use native.Mathlib.Nat.{mul-le-mul}
 use native.Mathlib.Omega.{arith}
 use borrow.Author.Needs.{needs}
+use Rattle.laws.proofs.Tabulates.{Filling, filling-more}
 use Rattle.bits.specs.Bits.{field}
-use Rattle.network.proofs.Wires.{Filling, filling-more}
 use Rattle.tables.proofs.lines.addresses.Statement.{statement}
 use Rattle.tables.proofs.lines.addresses.Tie as tie
 

@@ -3,7 +3,7 @@ use Prim.Native.Nat.{_-_, _≤_}
 use mathlib.Core.Path.{refl, sym, _∙_}
 use native.Mathlib.Omega.{arith}
 use borrow.Author.Needs.{needs}
-use Rattle.network.proofs.Wires.{Filling, filling-more}
+use Rattle.laws.proofs.Tabulates.{Filling, filling-more}
 use Rattle.tables.proofs.lines.number.Statement.{statement}
 use Rattle.tables.proofs.lines.number.Tie as tie
 

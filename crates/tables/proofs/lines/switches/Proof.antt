@@ -5,8 +5,8 @@ use mathlib.Core.Path.{_≡_, sym, ap, _∙_}
 use mathlib.Core.Logic.{⊎-elim}
 use native.Mathlib.Omega.{arith}
 use borrow.Author.Needs.{needs}
+use Rattle.laws.proofs.Tabulates.{Filling, filling-more}
 use Rattle.bits.specs.Bits.{bit, field}
-use Rattle.network.proofs.Wires.{Filling, filling-more}
 use Rattle.tables.proofs.Scans.{bit-eight}
 use Rattle.tables.proofs.lines.switches.Statement.{statement}
 use Rattle.tables.proofs.lines.switches.Tie as tie
