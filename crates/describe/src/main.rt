@@ -3,7 +3,7 @@ use libc::STDIN_FILENO;
 use libc::STDOUT_FILENO;
 
 fn main() {
-    // The longest set has 12,291 bytes. A longer input is cut here, and what is kept is still too long to be a set.
+    // The longest set has 12,291 bytes. A longer input is cut here, which leaves its description as it is (`describe-cut`).
     let mut file = [0u8; 16384];
     let mut text = [0u8; 24000];
     let read = io::read_full(STDIN_FILENO, &mut file);
