@@ -1,13 +1,14 @@
 -- What the code takes from a line: all lines are sent through its network at once, each with its own number, and the parts of a line stand
 -- where the shape says.
-use Prim.Native.Nat.{ℕ, _+_, _*_, _^_, _<_, _≤_}
+use Prim.Native.Nat.{ℕ, zero, suc, _+_, _*_, _^_, _<_, _≤_}
 use mathlib.Core.Path.{_≡_, refl, sym, ap, _∙_}
 use mathlib.Core.List.{List, _++_}
 use native.Mathlib.Omega.{arith}
 use lib.ListN.{length, getD, take, drop, length-append, length-drop, List·getD-append}
+use lib.Pow.{pow-pos}
 use lib.Seq.{length-take-le, getD-take}
 use Rattle.bits.specs.Bits.{bit}
-use Rattle.network.specs.Network.{leaves}
+use Rattle.network.specs.Network.{bitCount, leaves}
 use Rattle.network.specs.Calls.{Sized, Routed}
 use Rattle.network.proofs.Leaves.{leaves-ext, leaves-below}
 use Rattle.tables.specs.Terms.{Dims, cycles, depth, switchBits, addressRow}
@@ -41,6 +42,13 @@ sources-routed {d} {at} {lines} {count} {file} {found} {after} standing S few W 
     same x l =
         leaves-ext d (λ i. bit file (at + i)) (λ i. getD (take count found) i 0)
         (λ i m. let b : i < count = omega (arith, S .1) in sym (getD-take count found i 0 b ∙ W .each i b)) x l
+
+-- a network without bits has one line, which goes straight through
+pub sources-straight : (d : ℕ) {at lines count : ℕ} {standing : List ℕ} (file : List ℕ) → Sized lines count d → count ≡ 0
+    → (length standing ≡ 64) × ((x : ℕ) → x < lines → getD standing x 0 ≡ x) → Sources d file at standing
+unfolding leaves bitCount
+sources-straight zero file S e N = record { long = N .0; each = λ x l. N .1 x (omega (arith, S .0)) }
+sources-straight (suc d) file S e N = absurd (omega (arith, S .1, pow-pos d))
 
 -- ---- a line's parts
 

@@ -1,19 +1,21 @@
--- The loops that read lines: a scan that meets what it looks for, or passes it; and the eight switch bits that are taken at a time, whose
--- digits are the bits themselves.
-use Prim.Native.Nat.{ℕ, suc, _+_, _*_, _-_, _/_, _%_, _^_, _<_, _≤_}
-use mathlib.Core.Path.{_≡_, sym}
+-- The loops that read lines: a scan that meets what it looks for, or passes it; and the switch bits that are taken 16 at a time, as the
+-- digits of a field.
+use Prim.Native.Nat.{ℕ, suc, _+_, _-_, _<_, _≤_}
+use mathlib.Core.Path.{_≡_, refl, sym, ap, _∙_}
 use mathlib.Core.Bool.{true, false}
 use mathlib.Core.List.{List}
 use native.Mathlib.Omega.{arith}
-use native.Mathlib.Decide.{ℕ-discrete}
+use native.Mathlib.Decide.{ℕ-discrete, decLt}
 use borrow.Author.Tests.{lt-ltb, le-ltb, le-leb, lt-leb}
 use lib.Dec.{leb}
-use lib.ListN.{getD}
+use lib.ListN.{length, getD, set, length-set}
+use lib.Seq.{getD-set-same, getD-set-other}
 use Rattle.laws.specs.Any.{any}
 use Rattle.laws.proofs.Anys.{any-none, any-some}
+use Rattle.laws.proofs.Tabulates.{Filling}
 use Rattle.bits.specs.Bits.{digit, bit, field}
 use Rattle.bits.proofs.Fields.{bit-field}
-use Rattle.tables.specs.Lines.{spareUsed}
+use Rattle.tables.specs.Lines.{Spread, spareUsed}
 
 -- ---- addresses
 
@@ -65,10 +67,38 @@ spare-all {sources} {width} {y} lines S l =
 
 -- ---- bits
 
--- where bit i stands among the eight that are taken at a time
-pub bit-eight : (xs : List ℕ) (at i eight : ℕ) → eight ≡ field xs (at + i / 8 * 8) 8 → eight / 2 ^ (7 - i % 8) % 2 ≡ bit xs (at + i)
-unfolding digit
-bit-eight xs at i eight e =
-    let s : at + i / 8 * 8 + i % 8 ≡ at + i = omega arith in
-    let k : 8 - suc (i % 8) ≡ 7 - i % 8 = omega arith in
-    rw e (sym (rw (s, k) at (bit-field xs (at + i / 8 * 8) 8 (i % 8) (omega arith))))
+-- the first j of the k digits that are put
+pub record Spreading (number k from j : ℕ) (before after : List ℕ) : Type 0 where
+  pub long : length after ≡ length before
+  pub here : (i : ℕ) → i < j → getD after (from + i) 0 ≡ digit number (k - suc i)
+  pub below : (i : ℕ) → i < from → getD after i 0 ≡ getD before i 0
+
+pub spreading-none : (number k from : ℕ) (xs : List ℕ) → Spreading number k from 0 xs xs
+spreading-none number k from xs = record { long = refl; here = λ i l. absurd (omega arith); below = λ i l. refl }
+
+pub spreading-more : {number k from j v : ℕ} {before xs : List ℕ} → Spreading number k from j before xs → from + j < length xs
+    → v ≡ digit number (k - suc j) → Spreading number k from (j + 1) before (set xs (from + j) v)
+spreading-more {number} {k} {from} {j} {v} {before} {xs} S l e = record {
+  long = length-set xs (from + j) v ∙ S .long;
+  here = λ i m. elim (ℕ-discrete i j) [
+    | yes q ↦ rw q (getD-set-same xs (from + j) v 0 l ∙ e)
+    | no ne ↦ getD-set-other xs (from + j) (from + i) v 0 (λ q. ne (omega arith)) ∙ S .here i (omega arith)
+  ];
+  below = λ i m. getD-set-other xs (from + j) i v 0 (λ q. omega arith) ∙ S .below i m;
+}
+
+-- the digits of a field are bits of the file
+pub filling-spread : {before after : List ℕ} {number k i : ℕ} (file : List ℕ) (at : ℕ) → Filling (λ j. bit file (at + j)) 321 i before
+    → Spread number k i before after → number ≡ field file (at + i) k → Filling (λ j. bit file (at + j)) 321 (i + k) after
+filling-spread {number = number} {k = k} {i = i} file at F S e = record {
+  long = S .long ∙ F .long;
+  filled = λ x l. elim (decLt x i) [
+    | yes b ↦ S .below x b ∙ F .filled x b
+    | no b ↦
+        let z : i + (x - i) ≡ x = omega arith in
+        let y : at + i + (x - i) ≡ at + x = omega arith in
+        (rw z at (S .here (x - i) (omega arith)))
+        ∙ ap (λ (v : ℕ). digit v (k - suc (x - i))) e
+        ∙ sym (rw y at (bit-field file (at + i) k (x - i) (omega arith)))
+  ];
+}

@@ -1,12 +1,12 @@
 -- What the code takes from the lines of a set. Only contracts of our own crates cite these.
-use Prim.Native.Nat.{ℕ, _+_, _*_, _-_, _^_, _<_}
+use Prim.Native.Nat.{ℕ, suc, _+_, _*_, _-_, _^_, _<_}
 use mathlib.Core.Path.{_≡_}
 use mathlib.Core.Bool.{Bool}
 use mathlib.Core.List.{List}
 use lib.Dec.{ltb}
 use lib.ListN.{length, getD}
 use Rattle.laws.specs.Any.{any}
-use Rattle.bits.specs.Bits.{bit, field}
+use Rattle.bits.specs.Bits.{digit, bit, field}
 use Rattle.network.specs.Network.{leaves}
 use Rattle.tables.specs.Terms.{addressBits, depth, switchBits, addressRow}
 use Rattle.tables.specs.Format.{lineAt}
@@ -15,6 +15,12 @@ use Rattle.tables.specs.Format.{lineAt}
 pub record Addresses (file : List ℕ) (at address count : ℕ) (found : List ℕ) : Type 0 where
   pub long : length found ≡ 64
   pub each : (b : ℕ) → b < count → getD found b 0 ≡ field file (at + b * address) address
+
+-- the k binary digits of a number stand from place `from` on, the highest first, and what lies before them is as it was
+pub record Spread (number k from : ℕ) (before after : List ℕ) : Type 0 where
+  pub long : length after ≡ length before
+  pub here : (j : ℕ) → j < k → getD after (from + j) 0 ≡ digit number (k - suc j)
+  pub below : (i : ℕ) → i < from → getD after i 0 ≡ getD before i 0
 
 -- the switch bits that stand from bit `at` on
 pub record Switches (file : List ℕ) (at count : ℕ) (found : List ℕ) : Type 0 where

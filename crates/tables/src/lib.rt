@@ -17,6 +17,9 @@ use refusal::Refusal;
 
 // What a checked header says of a set.
 pub struct Shape {
+    // v, the lines of the network. It stands first because it is needed last: in an answer that may also be a refusal the first word is
+    // stored in pieces, and a processor waits before it can load them as one.
+    pub lines: usize,
     // n, the words of a frame.
     pub words: usize,
     // w, the words of a cycle.
@@ -25,8 +28,6 @@ pub struct Shape {
     pub cycles: usize,
     // a, the bits of an address.
     pub address: usize,
-    // v, the lines of the network.
-    pub lines: usize,
     // B, the switch bits of the network.
     pub switches: usize,
     // The bit where line 0 starts.

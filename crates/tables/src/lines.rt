@@ -7,7 +7,7 @@ ghost use Rattle.laws.specs.Any.{any};
 ghost use Rattle.network.specs.Calls.{Sized};
 ghost use Rattle.tables.specs.Terms.{Dims, cycles};
 ghost use Rattle.tables.specs.Format.{shapeOf};
-ghost use Rattle.tables.specs.Lines.{Addresses, Switches, Sources, Line, spareUsed};
+ghost use Rattle.tables.specs.Lines.{Addresses, Spread, Switches, Sources, Line, spareUsed};
 use crate::Shape;
 
 // The `count` addresses of `address` bits each that stand from bit `at` on.
@@ -22,20 +22,30 @@ fn addresses(file: &[u8], at: usize, address: usize, count: usize, found: &mut [
     }
 }
 
-// The `count` switch bits that stand from bit `at` on, taken eight at a time.
+// Puts the `count` binary digits of a number from `found[from]` on, the highest first.
+fn spread(number: u16, count: usize, found: &mut [u8], from: usize)
+    requires { ⌜ (count ≤ 16) × (from + count ≤ length (now found)) × (from < 2 ^ 32) ⌝ }
+    ensures { λ _. ⌜ Spread number count from (now (found .entry)) (now (found .exit)) ⌝ }
+{
+    let mut j = 0;
+    while j < count {
+        found[from + j] = ((number >> (count - 1 - j)) % 2) as u8;
+        j += 1;
+    }
+}
+
+// The `count` switch bits that stand from bit `at` on, taken 16 at a time.
 fn switches(file: &[u8], at: usize, count: usize, found: &mut [u8])
     requires { ⌜ (count ≤ 321) × (at < 2 ^ 32) × (length (now found) ≡ 321) ⌝ }
     ensures { λ _. ⌜ Switches (now (file .entry)) at count (now (found .exit)) ⌝ }
 {
-    let mut eight: u16 = 0;
     let mut i = 0;
-    while i < count {
-        if i % 8 == 0 {
-            eight = bits::field_at(file, at + i, 8);
-        }
-        found[i] = ((eight >> (7 - i % 8)) % 2) as u8;
-        i += 1;
+    while i + 16 <= count {
+        spread(bits::field_at(file, at + i, 16), 16, found, i);
+        i += 16;
     }
+    let rest = count - i;
+    spread(bits::field_at(file, at + i, rest), rest, found, i);
 }
 
 // Each of the first `lines` lines gets its own number.
@@ -50,7 +60,8 @@ fn number(standing: &mut [u8], lines: usize)
     }
 }
 
-// The line that leaves on each of `lines` lines of a network, whose `count` bits stand from bit `at` on. The bits are put in `setting`.
+// The line that leaves on each of `lines` lines of a network, whose `count` bits stand from bit `at` on. The bits are put in `setting`. A
+// network of one line has none.
 fn sources(
     file: &[u8],
     at: usize,
@@ -63,8 +74,11 @@ fn sources(
     requires { ⌜ (lines ≤ 64) × (count ≤ 321) × (at < 2 ^ 32) × (length (now setting) ≡ 321) × (length (now standing) ≡ 64) ⌝ }
     ensures { λ _. ⌜ (length (now (setting .exit)) ≡ 321) × ((d : ℕ) → Sized lines count d → Sources d (now (file .entry)) at (now (standing .exit))) ⌝ }
 {
-    switches(file, at, count, setting);
     number(standing, lines);
+    if count == 0 {
+        return;
+    }
+    switches(file, at, count, setting);
     network::route(&setting[..count], &mut standing[..lines]);
 }
 
