@@ -12,7 +12,6 @@ ghost use Rattle.generator.specs.Generating.{checksOf, Filled, Generates
 use crate::Generation;
 use crate::scheduling::HEADS;
 use crate::scheduling::chain;
-use crate::scheduling::graph;
 use crate::scheduling::take_line;
 use images::Checked;
 use matching::FREE;
@@ -110,8 +109,8 @@ fn make(images: &[u16], n: usize, w: usize, file: &mut [u8], next: &mut [u16]) -
 {
     let shape = tables::shape_of(n, w);
     packing::put_header(file, n, w);
-    let mut heads = chain(images, n, w, next);
-    let mut edges = graph(&heads, w);
+    let mut edges = [0u64; MOST];
+    let mut heads = chain(images, n, w, next, &mut edges);
     put_lines(images, next, &mut heads, &mut edges, shape, file);
     packing::put_filling(file, shape);
     tables::file_length(shape)

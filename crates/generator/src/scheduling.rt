@@ -2,7 +2,7 @@
 // `requires`.
 ghost use mathlib.Core.Path.{_≡_};
 ghost use Prim.Native.Nat.{ℕ, _+_, _*_, _%_, _<_, _≤_};
-ghost use lib.ListN.{length, getD};
+ghost use lib.ListN.{length, getD, replicate};
 ghost use Rattle.matching.specs.Graph.{Edge};
 ghost use Rattle.tables.specs.Terms.{Dims};
 ghost use Rattle.generator.specs.Schedule.{headAt, Linked, Drawn, Advanced, Takeable, Takes, Due, Took};
@@ -33,10 +33,18 @@ fn bank_before(bank: usize, w: usize) -> usize
     if bank == 0 { w - 1 } else { bank - 1 }
 }
 
-// Chains the words of each bank and port from the lowest up, in the first n words of `next`, and gives the lowest of each.
-pub fn chain(images: &[u16], n: usize, w: usize, next: &mut [u16]) -> [u16; HEADS]
+// Chains the words of each bank and port from the lowest up, in the first n words of `next`, joins each bank in the graph to the ports of its
+// words, and gives the lowest word of each bank and port.
+pub fn chain(
+    images: &[u16],
+    n: usize,
+    w: usize,
+    next: &mut [u16],
+    edges: &mut [u64; MOST],
+) -> [u16; HEADS]
     requires { ⌜ (Dims n w) × (n ≤ length (now images)) × (n ≤ length (now next)) ⌝ }
-    ensures { λ r. ⌜ Linked n w (λ i. getD (now (images .entry)) i 0) (now (next .entry)) (now (next .exit)) r ⌝ }
+    requires { ⌜ now edges ≡ replicate 64 0 ⌝ }
+    ensures { λ r. ⌜ Linked n w (λ i. getD (now (images .entry)) i 0) (now (next .entry)) (now (next .exit)) r × Drawn w r (now (edges .exit)) ⌝ }
 {
     let mut heads = [NONE; HEADS];
     let mut bank = 0;
@@ -44,27 +52,13 @@ pub fn chain(images: &[u16], n: usize, w: usize, next: &mut [u16]) -> [u16; HEAD
     while 0 < i {
         i -= 1;
         bank = bank_before(bank, w);
-        let place = bank * MOST + image(images, i) % w;
+        let port = image(images, i) % w;
+        let place = bank * MOST + port;
         next[i] = heads[place];
         heads[place] = i as u16;
+        join(edges, bank, port);
     }
     heads
-}
-
-// The graph of the banks and ports that have a word left.
-pub fn graph(heads: &[u16; HEADS], w: usize) -> [u64; MOST]
-    requires { ⌜ (w ≤ 64) × (length (now heads) ≡ 4096) ⌝ }
-    ensures { λ r. ⌜ Drawn w (now (heads .entry)) r ⌝ }
-{
-    let mut edges = [0; MOST];
-    let mut place = 0;
-    while place < w * MOST {
-        if heads[place] != NONE {
-            join(&mut edges, place / MOST, place % MOST);
-        }
-        place += 1;
-    }
-    edges
 }
 
 // Takes the lowest word that is left for a port from its owner. Where it is the last, their edge goes.
