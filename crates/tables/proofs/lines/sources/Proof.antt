@@ -23,18 +23,18 @@ slice-reshare-prefix-route : tie.Need-slice-reshare-prefix-route
 slice-reshare-prefix-route c = search needs
 
 slice-aggregate-route : tie.Need-slice-aggregate-route
-slice-aggregate-route c = 
+slice-aggregate-route c =
     sym (length-take-le _ (c .before .before .before .switches .last .1 .1 .1 .0) (omega (arith, c .before .before .before .switches .ensures .long, c .before .before .before .before .before .before .before .before .before .before .before .before .before .pre .1)))
 
 slice-relend-prefix-route : tie.Need-slice-relend-prefix-route
 slice-relend-prefix-route c = search needs
 
 slice-aggregate-route-2 : tie.Need-slice-aggregate-route-2
-slice-aggregate-route-2 c = 
+slice-aggregate-route-2 c =
     sym (length-take-le _ (c .before .before .before .before .before .before .before .before .before .number .last .0) (omega (arith, c .before .before .before .before .before .before .before .before .before .number .ensures .0, c .before .before .before .before .before .before .before .before .before .before .before .before .before .before .pre .1)))
 
 route-requires : tie.Need-route-requires
-route-requires c κs = 
+route-requires c κs =
     let s = c .before .before .before .before .before .before .before .before .before .before .before .before .before .before in
     let found = c .before .before .before .before .switches in
     let standing = c .before .before .before .before .before .before .before .before .before .number in
@@ -51,7 +51,7 @@ same-length-3 : tie.Need-same-length-3
 same-length-3 c = search needs
 
 returns-2 : tie.Need-returns-2
-returns-2 c = 
+returns-2 c =
     let s = c .before .before .before .before .before .before .before .before .before .before .before .before .before .before .before .before .before in
     let found = c .before .before .before .before .before .before .before .switches in
     let standing = c .before .before .before .before .before .before .before .before .before .before .before .before .number in (

@@ -28,7 +28,7 @@ field-at-requires : tie.Need-field-at-requires Inv-loop μ-loop
 field-at-requires c κs = search needs
 
 spread-requires : tie.Need-spread-requires Inv-loop μ-loop
-spread-requires c κs = 
+spread-requires c κs =
     let l = c .before .before .before .loop in
     let s = c .before .before .before .before .before .before in
     (omega arith, omega (arith, l .inv .1 .long, s .pre .0, c .before .before .loop-test .taken), omega (arith, l .inv .0, s .pre .0))
@@ -40,7 +40,7 @@ loop-less : tie.Need-loop-less Inv-loop μ-loop
 loop-less c = omega (arith, c .before .before .before .before .before .loop-test .taken)
 
 loop-again : tie.Need-loop-again Inv-loop μ-loop
-loop-again c = 
+loop-again c =
     let s = c .before .before .before .before .before .before .before .before .before in
     let l = c .before .before .before .before .before .before .loop in
     (omega (arith, c .before .before .before .before .before .loop-test .taken), filling-spread (s .args .file .now) (s .args .at) (l .inv .1) (c .before .before .spread .ensures) (c .before .before .before .before .field-at .ensures))
@@ -55,7 +55,7 @@ field-at-requires-2 : tie.Need-field-at-requires-2 Inv-loop μ-loop
 field-at-requires-2 c κs = search needs
 
 spread-requires-2 : tie.Need-spread-requires-2 Inv-loop μ-loop
-spread-requires-2 c κs = 
+spread-requires-2 c κs =
     let l = c .before .before .before .loop in
     let s = c .before .before .before .before .before .before in
     (omega (arith, c .before .before .loop-test .left), omega (arith, l .inv .1 .long, s .pre .0, l .inv .0), omega (arith, l .inv .0, s .pre .0))
@@ -64,7 +64,7 @@ same-length : tie.Need-same-length Inv-loop μ-loop
 same-length c = let l = c .before .before .before .before .before .before .loop in c .before .before .spread2 .ensures .long ∙ l .inv .1 .long ∙ sym (c .before .before .before .before .before .before .before .before .before .pre .2)
 
 returns : tie.Need-returns Inv-loop μ-loop
-returns c = 
+returns c =
     let s = c .before .before .before .before .before .before .before .before .before in
     let l = c .before .before .before .before .before .before .loop in
     let F = filling-spread (s .args .file .now) (s .args .at) (l .inv .1) (c .before .before .spread2 .ensures) (c .before .before .before .before .field-at2 .ensures) in
