@@ -1,22 +1,15 @@
 //! Times of the proved library beside the second implementation, in one run: generate, read and step. Each figure is the least of
 //! many runs, in nanoseconds for each word of the frame. Buffers are made once and not cleared between runs.
+//!
+//! With arguments it only repeats one call, for a profiler or a counter of instructions: `figures library|second generate|read|step
+//! WIDTH TIMES`, on a random order of 4,096 words.
 use rughtena_tests::orders::{bit_reversal, identity, reversal, stride, Random};
 use rughtena_tests::second::Dims;
 use rughtena_tests::Clock;
 use std::hint::black_box;
 use std::time::Instant;
 
-/// The least times in nanoseconds: a set generated, a set read, a frame stepped through.
-#[derive(Clone, Copy)]
-struct Times([f64; 3]);
-
 const RUNS: usize = 40;
-
-fn least(best: &mut f64, work: impl FnOnce()) {
-    let start = Instant::now();
-    work();
-    *best = best.min(start.elapsed().as_nanos() as f64);
-}
 
 /// The buffers of one case.
 struct Case<'a> {
@@ -30,6 +23,9 @@ struct Case<'a> {
     words: Vec<u16>,
     out: Vec<u16>,
 }
+
+/// One run of a call: a set generated, a set read, a frame stepped through.
+type Call = fn(&mut Case);
 
 impl Case<'_> {
     fn new(w: usize, order: &[u16]) -> Case<'_> {
@@ -48,65 +44,70 @@ impl Case<'_> {
     }
 }
 
-/// One run of each call of a module, made directly.
-macro_rules! run {
-    ($name:ident, $module:path) => {
-        fn $name(case: &mut Case, Times(best): &mut Times) {
-            use $module as calls;
-            let n = case.order.len();
-            least(&mut best[0], || {
-                let order = black_box(case.order);
-                black_box(calls::generate(
-                    n,
-                    case.w,
-                    order,
-                    &mut case.file,
-                    &mut case.scratch,
-                ))
-                .unwrap();
-            });
-            least(&mut best[1], || {
-                let file = black_box(&case.file);
-                black_box(calls::read(file, &mut case.images, &case.scratch)).unwrap();
-            });
+/// The calls of a module, each made directly.
+macro_rules! calls {
+    ($module:path) => {{
+        use $module as calls;
+        let generate: Call = |case| {
+            let order = black_box(case.order);
+            black_box(calls::generate(
+                order.len(),
+                case.w,
+                order,
+                &mut case.file,
+                &mut case.scratch,
+            ))
+            .unwrap();
+        };
+        let read: Call = |case| {
+            let file = black_box(&case.file);
+            black_box(calls::read(file, &mut case.images, &case.scratch)).unwrap();
+        };
+        let step: Call = |case| {
             let mut clock = Clock {
                 fill: 2,
                 ..Clock::default()
             };
-            least(&mut best[2], || {
-                for _ in 0..n / case.w {
-                    black_box(calls::step(
-                        black_box(&case.file),
-                        &mut clock,
-                        &mut case.first,
-                        &mut case.second,
-                        &case.words,
-                        &mut case.out,
-                    ))
-                    .unwrap();
-                }
-            });
-        }
-    };
+            for _ in 0..case.order.len() / case.w {
+                black_box(calls::step(
+                    black_box(&case.file),
+                    &mut clock,
+                    &mut case.first,
+                    &mut case.second,
+                    &case.words,
+                    &mut case.out,
+                ))
+                .unwrap();
+            }
+        };
+        [generate, read, step]
+    }};
 }
 
-run!(run_library, ::rughtena);
-run!(run_second, ::rughtena_tests::second);
+/// The calls of the library, then those of the second implementation.
+fn implementations() -> [[Call; 3]; 2] {
+    [calls!(::rughtena), calls!(::rughtena_tests::second)]
+}
 
-/// The implementations take turns, so that both meet the same state of the machine.
-fn measure(w: usize, order: &[u16]) -> [Times; 2] {
+/// The least times in nanoseconds. The implementations take turns, so that both meet the same state of the machine.
+fn measure(w: usize, order: &[u16]) -> [[f64; 3]; 2] {
     let mut case = Case::new(w, order);
-    let mut times = [Times([f64::MAX; 3]); 2];
+    let mut least = [[f64::MAX; 3]; 2];
     for _ in 0..RUNS {
-        run_library(&mut case, &mut times[0]);
-        run_second(&mut case, &mut times[1]);
+        for (times, calls) in least.iter_mut().zip(implementations()) {
+            for (time, call) in times.iter_mut().zip(calls) {
+                let start = Instant::now();
+                call(&mut case);
+                *time = time.min(start.elapsed().as_nanos() as f64);
+            }
+        }
     }
-    times
+    least
 }
 
 fn row(name: &str, w: usize, order: &[u16]) {
     let n = order.len();
-    let [Times(ours), Times(theirs)] = measure(w, order);
+    let [ours, theirs] = measure(w, order);
     print!("| {n} | {w} | {name} |");
     for call in 0..3 {
         let (a, b) = (ours[call] / n as f64, theirs[call] / n as f64);
@@ -115,7 +116,32 @@ fn row(name: &str, w: usize, order: &[u16]) {
     println!(" {:.3} |", ours[0] / 1e6);
 }
 
+/// Repeats the call that the arguments name.
+fn repeat(arguments: &[String]) -> Option<()> {
+    let [implementation, call, width, times] = arguments else {
+        return None;
+    };
+    let implementation = ["library", "second"]
+        .iter()
+        .position(|name| name == implementation)?;
+    let call = ["generate", "read", "step"]
+        .iter()
+        .position(|name| name == call)?;
+    let order = Random(7).order(4096);
+    let mut case = Case::new(width.parse().ok()?, &order);
+    let calls = implementations();
+    calls[0][0](&mut case);
+    for _ in 0..times.parse().ok()? {
+        calls[implementation][call](&mut case);
+    }
+    Some(())
+}
+
 fn main() {
+    let arguments: Vec<String> = std::env::args().skip(1).collect();
+    if !arguments.is_empty() {
+        return repeat(&arguments).expect("library|second generate|read|step WIDTH TIMES");
+    }
     println!("| n | w | order | generate | second | ratio | read | second | ratio | step | second | ratio | generate, ms |");
     println!("| --- | --- | --- | --- | --- | --- | --- | --- | --- | --- | --- | --- | --- |");
     let mut random = Random(7);
