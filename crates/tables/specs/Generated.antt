@@ -60,7 +60,7 @@ packed bits = tabulate ((length bits + 7) / 8) (λ j. numberAt bits (8 * j) 8)
 unfoldable pub setOf : ℕ → ℕ → (ℕ → ℕ) → (ℕ → ℕ → ℕ) → List ℕ
 setOf n w p reads = packed (setBits n w p reads)
 
--- the file holds the bits below position x, over a buffer that was `before`
+-- the file holds the bits below position x, over a buffer that was `before`. Only contracts of our own crates cite it.
 pub record Written (bits before file : List ℕ) (x : ℕ) : Type 0 where
   pub long : length file ≡ length before
   pub bytes : Bytes file

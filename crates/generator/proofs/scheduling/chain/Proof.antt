@@ -77,7 +77,9 @@ join-requires : tie.Need-join-requires Inv-loop μ-loop
 join-requires c κs =
     let s = c .before .before .before .before .before .before .before in
     let l = c .before .before .before .before .loop in
-    (l .inv .2 .long, omega (arith, banked (c .before .before), mod-lt (l .i - 1) (s .pre .0 .0 .wide), s .pre .0 .0 .narrow), omega (arith, mod-lt (c .before .image .result) (s .pre .0 .0 .wide), s .pre .0 .0 .narrow))
+    let bank : c .before .before .bank-before .result < 64 = omega (arith, banked (c .before .before), mod-lt (l .i - 1) (s .pre .0 .0 .wide), s .pre .0 .0 .narrow) in
+    let port : c .before .image .result % s .args .w < 64 = omega (arith, mod-lt (c .before .image .result) (s .pre .0 .0 .wide), s .pre .0 .0 .narrow) in
+    (l .inv .2 .long, omega (arith, bank, port), omega (arith, bank, port))
 
 loop-less : tie.Need-loop-less Inv-loop μ-loop
 loop-less c = omega (arith, c .before .before .before .before .loop-test .taken)
