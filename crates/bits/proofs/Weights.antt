@@ -1,6 +1,6 @@
 -- A field is the number that its bits write: bit k of a field of w bits, counted from its first, has the weight 2^(w - 1 - k).
 use Prim.Native.Nat.{ℕ, zero, suc, _+_, _*_, _-_, _^_, _<_}
-use mathlib.Core.Path.{_≡_, refl, sym, ap, _∙_}
+use mathlib.Core.Path.{_≡_, refl}
 use mathlib.Core.List.{List}
 use native.Mathlib.Omega.{arith}
 use native.Mathlib.Nat.{pow-suc, mul-one, mul-comm, mul-assoc}

@@ -5,12 +5,13 @@ use mathlib.Core.Path.{_≡_, ap}
 use mathlib.Core.List.{List}
 use native.Mathlib.Omega.{arith}
 use lib.ListN.{take, replicate}
+use Rattle.limits.specs.Limits.{mostWords}
 use Rattle.tables.proofs.Cut.{read-cut}
 use Rattle.description.specs.Description.{textOf, descriptionOf}
 
 pub description-cut : (file : List ℕ) (k : ℕ) → 12292 ≤ k → descriptionOf (take k file) ≡ descriptionOf file
 unfolding descriptionOf
-description-cut file k l = ap textOf (read-cut file k l (replicate 4096 0) (replicate 8192 0))
+description-cut file k l = ap textOf (read-cut file k l (replicate mostWords 0) (replicate 8192 0))
 
 -- the bytes that the program keeps
 pub describe-cut : (file : List ℕ) → descriptionOf (take 16384 file) ≡ descriptionOf file

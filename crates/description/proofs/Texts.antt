@@ -1,13 +1,14 @@
 -- Laws of writing text: what is written behind what was written is written with it, a number takes one to four characters, and the loops
 -- of the writing functions.
-use Prim.Native.Nat.{ℕ, zero, suc, _+_, _*_, _-_, _/_, _%_, _<_, _≤_}
+use Prim.Native.Nat.{ℕ, zero, suc, _+_, _*_, _-_, _/_, _<_, _≤_}
 use mathlib.Core.Path.{_≡_, refl, sym, ap, ap₂, subst, _∙_}
-use mathlib.Core.List.{List, [], _∷_, _++_, append-nil, append-assoc}
+use mathlib.Core.List.{List, [], _∷_, _++_}
 use native.Mathlib.Omega.{arith}
 use native.Mathlib.Numerals.{add-one}
 use native.Mathlib.Nat.{add-zero, add-suc, suc-add, zero-add}
-use lib.ListN.{length, getD, set, take, length-append, length-set, length-take}
+use lib.ListN.{length, getD, set, take, length-append, length-set}
 use lib.Seq.{sets, length-sets, take-suc}
+use Rattle.limits.specs.Limits.{mostWords, textRoom}
 use Rattle.laws.specs.Choice.{ifLt}
 use Rattle.laws.proofs.Choices.{ifLt-yes, ifLt-no, ifLt-cases}
 use Rattle.laws.proofs.Tabulates.{stored-turn}
@@ -99,7 +100,7 @@ leaving-more {n} {w} {word} {before} {middle} {after} {at} {j} {next} {r} {x} {v
     }
 
 -- the inverse of a permutation, one word more
-pub inverted-more : {images words : List ℕ} {n i v : ℕ} → Permutes n (λ i. getD images i 0) → n ≤ 4096 → i < n → v ≡ getD images i 0 → Inverted images i words
+pub inverted-more : {images words : List ℕ} {n i v : ℕ} → Permutes n (λ i. getD images i 0) → n ≤ mostWords → i < n → v ≡ getD images i 0 → Inverted images i words
     → Inverted images (i + 1) (set words v i)
 inverted-more {images} {words} {n} {i} {v} P few l e I = rw e (record {
   long = length-set words (getD images i 0) i ∙ I .long;
@@ -149,8 +150,8 @@ number-short ClockRange = omega arith
 number-short (SwitchValue i) = omega arith
 
 -- the call's answer, from what was written
-pub tells : (file text : List ℕ) {d after : List ℕ} {r : ℕ} → 24000 ≤ length text → descriptionOf file ≡ d → Wrote text 0 d r after → told r after ≡ tellOf file text
+pub tells : (file text : List ℕ) {d after : List ℕ} {r : ℕ} → textRoom ≤ length text → descriptionOf file ≡ d → Wrote text 0 d r after → told r after ≡ tellOf file text
 unfolding tellOf
 tells file text {d} {after} {r} room e W =
-    ifLt-no (length text) 24000 _ _ _ room
+    ifLt-no (length text) textRoom _ _ _ room
     (ap₂ told (W .end ∙ zero-add (length d) ∙ ap length (sym e)) (W .made ∙ ap (λ (xs : List ℕ). sets text 0 xs) (sym e)))

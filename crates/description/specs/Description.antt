@@ -1,8 +1,9 @@
 -- The text that tells what a table set does (document 01, "Examples on each side"), as character codes.
-use Prim.Native.Nat.{ℕ, zero, suc, _+_, _/_, _%_}
+use Prim.Native.Nat.{ℕ, _+_, _/_, _%_}
 use mathlib.Core.List.{List, [], _∷_, _++_}
 use lib.ListN.{length, getD, replicate}
 use lib.Seq.{sets}
+use Rattle.limits.specs.Limits.{mostWords, textRoom}
 use Rattle.laws.specs.Choice.{ifLt, ifEq}
 use Rattle.laws.specs.Permutation.{inverse}
 use Rattle.refusal.specs.Refusals.{numberOf}
@@ -54,7 +55,7 @@ textOf (outcome (Refused r) images) = refusalText (numberOf r)
 
 -- the description of a file, read with memory enough
 unfoldable pub descriptionOf : List ℕ → List ℕ
-descriptionOf file = textOf (readOf file (replicate 4096 0) (replicate 8192 0))
+descriptionOf file = textOf (readOf file (replicate mostWords 0) (replicate 8192 0))
 
 -- an answer, with the lent text afterwards
 pub data Told : Type 0 where
@@ -62,4 +63,4 @@ pub data Told : Type 0 where
 
 -- the call: the description's length, and its characters at the front of the text; 0 where the text has no room for the longest
 unfoldable pub tellOf : List ℕ → List ℕ → Told
-tellOf file text = ifLt (length text) 24000 (told 0 text) (told (length (descriptionOf file)) (sets text 0 (descriptionOf file)))
+tellOf file text = ifLt (length text) textRoom (told 0 text) (told (length (descriptionOf file)) (sets text 0 (descriptionOf file)))

@@ -4,6 +4,7 @@ use mathlib.Core.Path.{_≡_}
 use mathlib.Core.List.{List}
 use lib.ListN.{length, getD}
 use lib.Seq.{sets}
+use Rattle.limits.specs.Limits.{mostWords}
 
 -- the characters stand from position `at` on, and r is the position behind them
 pub record Wrote (before : List ℕ) (at : ℕ) (characters : List ℕ) (r : ℕ) (after : List ℕ) : Type 0 where
@@ -12,5 +13,5 @@ pub record Wrote (before : List ℕ) (at : ℕ) (characters : List ℕ) (r : ℕ
 
 -- an array that has, at the image of each of the first n words, that word
 pub record Inverted (images : List ℕ) (n : ℕ) (words : List ℕ) : Type 0 where
-  pub long : length words ≡ 4096
+  pub long : length words ≡ mostWords
   pub filled : (i : ℕ) → i < n → getD words (getD images i 0) 0 ≡ i

@@ -2,14 +2,13 @@
 ghost use mathlib.Core.Path.{_≡_};
 ghost use Prim.Native.Nat.{ℕ, _+_, _*_, _<_, _≤_};
 ghost use lib.ListN.{length, getD};
-ghost use lib.Seq.{sets};
+ghost use Rattle.limits.specs.Limits.{mostWords, mostWidth, textRoom};
 ghost use Rattle.laws.specs.Permutation.{Permutes};
 ghost use Rattle.description.specs.Description.{decimal, separator, leavers, setText, refusalText, told, tellOf};
 ghost use Rattle.description.specs.Writing.{Wrote, Inverted};
+use limits::MOST_WORDS;
+use limits::TEXT_ROOM;
 use tables::Reading;
-
-// Room for the longest description: 4,096 numbers of up to four figures with a separator each, and the first line.
-const ROOM: usize = 24000;
 
 // A number below 10,000 in base ten, from position `at` on. The position behind it.
 fn put_number(text: &mut [u8], at: usize, x: usize) -> usize
@@ -53,7 +52,7 @@ fn put_text(text: &mut [u8], at: usize, characters: &[u8]) -> usize
 
 // What stands behind the number at place j: a new line behind the last of a cycle, else a space.
 fn separator_of(w: usize, j: usize) -> u8
-    requires { ⌜ (0 < w) × (j < 4096) ⌝ }
+    requires { ⌜ (0 < w) × (j < mostWords) ⌝ }
     ensures { λ r. ⌜ r ≡ separator w j ⌝ }
 {
     if (j + 1) % w == 0 {
@@ -64,7 +63,7 @@ fn separator_of(w: usize, j: usize) -> u8
 
 // The numbers of the elements that leave, cycle by cycle.
 fn put_leavers(text: &mut [u8], at: usize, words: &[u16], n: usize, w: usize) -> usize
-    requires { ⌜ (n ≤ 4096) × (0 < w) × (n ≤ length (now words)) × (at + 5 * n ≤ length (now text)) ⌝ }
+    requires { ⌜ (n ≤ mostWords) × (0 < w) × (n ≤ length (now words)) × (at + 5 * n ≤ length (now text)) ⌝ }
     requires { ⌜ ((j : ℕ) → j < n → getD (now words) j 0 < 10000) ⌝ }
     ensures { λ r. ⌜ Wrote (now (text .entry)) at (leavers n w (λ j. getD (now (words .entry)) j 0) n) r (now (text .exit)) ⌝ }
 {
@@ -80,11 +79,11 @@ fn put_leavers(text: &mut [u8], at: usize, words: &[u16], n: usize, w: usize) ->
 }
 
 // The word that leaves at each place.
-fn leavers_of(images: &[u16], n: usize) -> [u16; 4096]
-    requires { ⌜ (n ≤ 4096) × (n ≤ length (now images)) × Permutes n (λ i. getD (now images) i 0) ⌝ }
+fn leavers_of(images: &[u16], n: usize) -> [u16; MOST_WORDS]
+    requires { ⌜ (n ≤ mostWords) × (n ≤ length (now images)) × Permutes n (λ i. getD (now images) i 0) ⌝ }
     ensures { λ r. ⌜ Inverted (now (images .entry)) n r ⌝ }
 {
-    let mut words = [0u16; 4096];
+    let mut words = [0u16; MOST_WORDS];
     let mut i = 0;
     while i < n {
         let place = images[i] as usize;
@@ -96,7 +95,7 @@ fn leavers_of(images: &[u16], n: usize) -> [u16; 4096]
 
 // The description of a set of n words and width w.
 fn put_set(text: &mut [u8], images: &[u16], n: usize, w: usize) -> usize
-    requires { ⌜ (n ≤ 4096) × (0 < w) × (w ≤ 64) × (n ≤ length (now images)) × (24000 ≤ length (now text)) ⌝ }
+    requires { ⌜ (n ≤ mostWords) × (0 < w) × (w ≤ mostWidth) × (n ≤ length (now images)) × (textRoom ≤ length (now text)) ⌝ }
     requires { ⌜ Permutes n (λ i. getD (now images) i 0) ⌝ }
     ensures { λ r. ⌜ Wrote (now (text .entry)) 0 (setText n w (now (images .entry))) r (now (text .exit)) ⌝ }
 {
@@ -111,7 +110,7 @@ fn put_set(text: &mut [u8], images: &[u16], n: usize, w: usize) -> usize
 
 // The description of a file that is refused.
 fn put_refusal(text: &mut [u8], number: usize) -> usize
-    requires { ⌜ (number < 10000) × (24000 ≤ length (now text)) ⌝ }
+    requires { ⌜ (number < 10000) × (textRoom ≤ length (now text)) ⌝ }
     ensures { λ r. ⌜ Wrote (now (text .entry)) 0 (refusalText number) r (now (text .exit)) ⌝ }
 {
     let mut at = put_text(text, 0, b"refused ");
@@ -123,11 +122,11 @@ fn put_refusal(text: &mut [u8], number: usize) -> usize
 pub fn describe(file: &[u8], text: &mut [u8]) -> usize
     ensures { λ r. ⌜ told r (now (text .exit)) ≡ tellOf (now (file .entry)) (now (text .entry)) ⌝ }
 {
-    if text.len() < ROOM {
+    if text.len() < TEXT_ROOM {
         return 0;
     }
-    let mut images = [0u16; 4096];
-    let scratch = [0u16; 8192];
+    let mut images = [0u16; MOST_WORDS];
+    let scratch = [0u16; 2 * MOST_WORDS];
     match tables::read(file, &mut images, &scratch) {
         Reading::Refused(refusal) => put_refusal(text, refusal.number()),
         Reading::Read(n, w) => put_set(text, &images, n, w),

@@ -8,8 +8,9 @@ use native.Mathlib.Decide.{ℕ-discrete, decLt}
 use native.Mathlib.Nat.{mod-lt, mod-eq-of-lt, mod-self, div-add-mod', mul-add-mod-self-right}
 use lib.ListN.{length, getD, set, length-set, replicate, getD-replicate, length-replicate}
 use lib.Seq.{getD-set-same, getD-set-other}
+use Rattle.limits.specs.Limits.{mostWidth, noWord}
 use Rattle.tables.specs.Terms.{Dims}
-use Rattle.generator.specs.Schedule.{headAt, Alike, Headed, Linked}
+use Rattle.generator.specs.Schedule.{headAt, Alike, Headed, Linked, headCount}
 use Rattle.generator.proofs.Heads.{head-here, head-cases}
 
 -- the remainder of the number before: one less, and from 0 the highest
@@ -42,14 +43,14 @@ pub record Chaining (n w : ℕ) (p : ℕ → ℕ) (lent : List ℕ) (i : ℕ) (n
   pub long : length next ≡ length lent
   pub behind : (j : ℕ) → n ≤ j → getD next j 0 ≡ getD lent j 0
   pub later : (j : ℕ) → i ≤ j → j < n → getD next j 0 < n → (j < getD next j 0) × Alike w p j (getD next j 0)
-  pub limit : (j : ℕ) → i ≤ j → j < n → (getD next j 0 < n → ⊥) → getD next j 0 ≡ 65535
+  pub limit : (j : ℕ) → i ≤ j → j < n → (getD next j 0 < n → ⊥) → getD next j 0 ≡ noWord
   pub between : (j l : ℕ) → i ≤ j → j < l → l < n → Alike w p j l → getD next j 0 ≤ l
   pub headed : Headed n w p heads
   pub least : (b k : ℕ) → b < w → k < w → i ≤ headAt heads b k
   pub lowest : (j : ℕ) → i ≤ j → j < n → headAt heads (j % w) (p j % w) ≤ j
 
 module _ {n w : ℕ} {p : ℕ → ℕ} {lent : List ℕ} (D : Dims n w) where
-  pub chaining-none : Chaining n w p lent n lent (replicate 4096 65535)
+  pub chaining-none : Chaining n w p lent n lent (replicate headCount noWord)
   chaining-none = record {
     upto = omega arith;
     long = refl;
@@ -58,7 +59,7 @@ module _ {n w : ℕ} {p : ℕ → ℕ} {lent : List ℕ} (D : Dims n w) where
     limit = λ j l m. absurd (omega arith);
     between = λ j l q r m. absurd (omega arith);
     headed = record {
-      long = length-replicate {A = ℕ} 4096 65535;
+      long = length-replicate {A = ℕ} headCount noWord;
       here = λ b k l m q. absurd (omega (arith, none b k l m, D .few));
       limit = λ b k l m q. none b k l m;
     };
@@ -66,11 +67,11 @@ module _ {n w : ℕ} {p : ℕ → ℕ} {lent : List ℕ} (D : Dims n w) where
     lowest = λ j l m. absurd (omega arith);
   }
     where
-      none : (b k : ℕ) → b < w → k < w → headAt (replicate 4096 65535) b k ≡ 65535
-      none b k l m = getD-replicate {A = ℕ} 4096 (b * 64 + k) 65535 0 (omega (arith, D .narrow))
+      none : (b k : ℕ) → b < w → k < w → headAt (replicate headCount noWord) b k ≡ noWord
+      none b k l m = getD-replicate {A = ℕ} headCount (b * mostWidth + k) noWord 0 (omega (arith, D .narrow))
 
   pub chaining-more : {i : ℕ} {next heads : List ℕ} → n ≤ length lent → Chaining n w p lent (i + 1) next heads
-      → Chaining n w p lent i (set next i (headAt heads (i % w) (p i % w))) (set heads (i % w * 64 + p i % w) i)
+      → Chaining n w p lent i (set next i (headAt heads (i % w) (p i % w))) (set heads (i % w * mostWidth + p i % w) i)
   chaining-more {i} {next} {heads} fits C = record {
     upto = omega (arith, C .upto);
     long = length-set next i v ∙ C .long;
@@ -78,13 +79,13 @@ module _ {n w : ℕ} {p : ℕ → ℕ} {lent : List ℕ} (D : Dims n w) where
     later = λ j l m. at (λ j x. x < n → (j < x) × Alike w p j x) j l
         (λ q. let r = C .headed .here b k lb lk q in (omega (arith, C .least b k lb lk), (sym (r .0), sym (r .1))))
         (λ q. C .later j q m);
-    limit = λ j l m. at (λ j x. (x < n → ⊥) → x ≡ 65535) j l (C .headed .limit b k lb lk) (λ q. C .limit j q m);
+    limit = λ j l m. at (λ j x. (x < n → ⊥) → x ≡ noWord) j l (C .headed .limit b k lb lk) (λ q. C .limit j q m);
     between = λ j l q r m. at (λ j x. j < l → Alike w p j l → x ≤ l) j q
         (λ s a. rw (a .0, a .1) (C .lowest l (omega arith) m)) (λ s u a. C .between j l s u m a) r;
     headed = record {
-      long = length-set heads (b * 64 + k) i ∙ C .headed .long;
+      long = length-set heads (b * mostWidth + k) i ∙ C .headed .long;
       here = λ d j l m. head (λ d j x. x < n → (x % w ≡ d) × (p x % w ≡ j)) d j m (λ _. (refl, refl)) (C .headed .here d j l m);
-      limit = λ d j l m. head (λ d j x. (x < n → ⊥) → x ≡ 65535) d j m (λ q. absurd (q inside)) (C .headed .limit d j l m);
+      limit = λ d j l m. head (λ d j x. (x < n → ⊥) → x ≡ noWord) d j m (λ q. absurd (q inside)) (C .headed .limit d j l m);
     };
     least = λ d j l m. head (λ d j x. i ≤ x) d j m (omega arith) (omega (arith, C .least d j l m));
     lowest = λ j l m. elim (ℕ-discrete j i) [
@@ -111,10 +112,10 @@ module _ {n w : ℕ} {p : ℕ → ℕ} {lent : List ℕ} (D : Dims n w) where
       lk : k < w
       lk = mod-lt (p i) (D .wide)
 
-      mk : k < 64
+      mk : k < mostWidth
       mk = omega (arith, lk, D .narrow)
 
-      place : b * 64 + k < length heads
+      place : b * mostWidth + k < length heads
       place = omega (arith, lb, lk, D .narrow, C .headed .long)
 
       -- what is shown of the new word's next one, and of any later word's
@@ -124,7 +125,7 @@ module _ {n w : ℕ} {p : ℕ → ℕ} {lent : List ℕ} (D : Dims n w) where
         | no ne ↦ rw (getD-set-other next i j v 0 ne) (there (omega arith))
       ]
 
-      head : (P : ℕ → ℕ → ℕ → Type 0) (d j : ℕ) → j < w → P b k i → P d j (headAt heads d j) → P d j (headAt (set heads (b * 64 + k) i) d j)
+      head : (P : ℕ → ℕ → ℕ → Type 0) (d j : ℕ) → j < w → P b k i → P d j (headAt heads d j) → P d j (headAt (set heads (b * mostWidth + k) i) d j)
       head P d j m here there =
           head-cases heads b k i mk place P d j (omega (arith, D .narrow)) here (λ _. there)
 

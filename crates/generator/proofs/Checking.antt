@@ -1,16 +1,16 @@
 -- What the tests before the first written word let through: n and w keep their limits, enough is lent, and the images are a permutation.
 use Prim.Native.Nat.{ℕ, _%_, _≤_}
-use mathlib.Core.Path.{_≡_, refl, sym, ap, _∙_}
+use mathlib.Core.Path.{_≡_, sym, ap, _∙_}
 use mathlib.Core.List.{List}
 use native.Mathlib.Omega.{arith}
 use lib.ListN.{length, getD}
+use Rattle.limits.specs.Limits.{mostWords, mostWidth}
 use Rattle.laws.specs.Choice.{ifLt, ifEq}
 use Rattle.laws.specs.Permutation.{Permutes}
 use Rattle.laws.proofs.Choices.{ifLt-no, ifLt-cases, ifEq-yes, ifEq-cases}
 use Rattle.refusal.specs.declared.Refusal.{Refusal}
 use Rattle.images.specs.declared.Checked.{Checked}
 use Rattle.images.specs.declared.Checked.the-variants.{Permutation, Refused}
-use Rattle.images.specs.Images.{checkOf}
 use Rattle.images.proofs.Exact.{not-refused, check-permutes, permutes-check}
 use Rattle.tables.specs.Terms.{Dims, fileLength}
 use Rattle.generator.specs.Generating.{scratchNeed, checksOf, outcome, Filled, Generates}
@@ -37,9 +37,9 @@ module _ (n w : ℕ) (images : List ℕ) (room scratch : ℕ) where
   unfolding checksOf Leads
   checks-passed =
       ifLt-cases Leads n 1 _ _ (λ _. turned _) λ some.
-      ifLt-cases Leads 4096 n _ _ (λ _. turned _) λ few.
+      ifLt-cases Leads mostWords n _ _ (λ _. turned _) λ few.
       ifLt-cases Leads w 1 _ _ (λ _. turned _) λ wide.
-      ifLt-cases Leads 64 w _ _ (λ _. turned _) λ narrow.
+      ifLt-cases Leads mostWidth w _ _ (λ _. turned _) λ narrow.
       ifEq-cases Leads (n % w) 0 _ _
       (λ even.
       ifLt-cases Leads (length images) n _ _ (λ _. turned _) λ listed.

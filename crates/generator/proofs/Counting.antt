@@ -7,6 +7,7 @@ use native.Mathlib.Omega.{arith}
 use native.Mathlib.Decide.{ℕ-discrete, decLt, decLe}
 use native.Mathlib.Nat.{zero-mul, mul-zero, suc-mul, mod-lt, mod-eq-of-lt, mul-add-mod-self-right}
 use lib.ListN.{getD}
+use Rattle.limits.specs.Limits.{mostWords}
 use Rattle.laws.specs.Choice.{ifLe}
 use Rattle.laws.specs.Sum.{sum, is}
 use Rattle.laws.specs.Permutation.{Permutes}
@@ -82,11 +83,11 @@ left-positive n w p heads b k l =
     ]
 
 -- a word's next one is above it
-pub next-above : {n w : ℕ} {p : ℕ → ℕ} {next : List ℕ} → n ≤ 4096 → Chained n w p next → (i : ℕ) → i < n → i < getD next i 0
+pub next-above : {n w : ℕ} {p : ℕ → ℕ} {next : List ℕ} → n ≤ mostWords → Chained n w p next → (i : ℕ) → i < n → i < getD next i 0
 next-above {n} {next = next} few C i l = elim (decLt (getD next i 0) n) [ yes q ↦ C .later i l q .0 | no q ↦ omega (arith, C .limit i l q) ]
 
 -- one word less, where the head moves to the next word
-pub left-taken : {n w : ℕ} {p : ℕ → ℕ} {next heads : List ℕ} (heads′ : List ℕ) (b k : ℕ) → n ≤ 4096 → Chained n w p next → Headed n w p heads
+pub left-taken : {n w : ℕ} {p : ℕ → ℕ} {next heads : List ℕ} (heads′ : List ℕ) (b k : ℕ) → n ≤ mostWords → Chained n w p next → Headed n w p heads
     → b < w → k < w → headAt heads b k < n → headAt heads′ b k ≡ getD next (headAt heads b k) 0
     → left n w p heads b k ≡ left n w p heads′ b k + 1
 unfolding left

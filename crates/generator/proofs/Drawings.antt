@@ -7,37 +7,39 @@ use mathlib.Core.Logic.{⊎-elim}
 use native.Mathlib.Omega.{arith}
 use native.Mathlib.Decide.{decLt}
 use lib.ListN.{length, getD, set, replicate, getD-replicate, length-replicate}
+use Rattle.limits.specs.Limits.{mostWidth, noWord}
 use Rattle.laws.specs.Permutation.{Permutes}
 use Rattle.matching.specs.Graph.{Edge, Joined}
 use Rattle.matching.proofs.Graphs.{edge-none}
 use Rattle.matching.proofs.Matchings.{matches-free}
 use Rattle.tables.specs.Terms.{Dims}
-use Rattle.generator.specs.Schedule.{headAt, Linked, Drawn, Scheduled}
+use Rattle.generator.specs.Schedule.{headAt, Linked, Drawn, Scheduled, headCount}
 use Rattle.generator.proofs.Heads.{head-cases}
 use Rattle.generator.proofs.Counting.{first-banks, first-ports}
+use Rattle.matching.specs.Matching.{unowned}
 
 -- no word is there yet, and no edge
-pub drawn-none : {w : ℕ} → w ≤ 64 → Drawn w (replicate 4096 65535) (replicate 64 0)
+pub drawn-none : {w : ℕ} → w ≤ mostWidth → Drawn w (replicate headCount noWord) (replicate mostWidth 0)
 drawn-none few = record {
-  long = length-replicate {A = ℕ} 64 0;
-  joined = λ b k l m some. absurd (some (getD-replicate {A = ℕ} 4096 (b * 64 + k) 65535 0 (omega arith)));
-  cut = λ b k l m e. absurd (edge-none (replicate 64 0) b k (getD-replicate {A = ℕ} 64 b 0 0 (omega arith)) e);
+  long = length-replicate {A = ℕ} mostWidth 0;
+  joined = λ b k l m some. absurd (some (getD-replicate {A = ℕ} headCount (b * mostWidth + k) noWord 0 (omega arith)));
+  cut = λ b k l m e. absurd (edge-none (replicate mostWidth 0) b k (getD-replicate {A = ℕ} mostWidth b 0 0 (omega arith)) e);
 }
 
 -- a word of bank b and port k comes in, and their edge
-pub drawn-more : {w b k i : ℕ} {heads edges edges′ : List ℕ} → w ≤ 64 → k < w → b * 64 + k < length heads → (i ≡ 65535 → ⊥) → Drawn w heads edges
-    → Joined edges b k edges′ → Drawn w (set heads (b * 64 + k) i) edges′
+pub drawn-more : {w b k i : ℕ} {heads edges edges′ : List ℕ} → w ≤ mostWidth → k < w → b * mostWidth + k < length heads → (i ≡ noWord → ⊥) → Drawn w heads edges
+    → Joined edges b k edges′ → Drawn w (set heads (b * mostWidth + k) i) edges′
 drawn-more {w} {b} {k} {i} {heads} {edges} {edges′} few lk inside some G J = record {
   long = J .long ∙ G .long;
-  joined = λ d j l m. head-cases heads b k i (omega arith) inside (λ d j x. (x ≡ 65535 → ⊥) → Edge edges′ d j) d j (omega arith)
+  joined = λ d j l m. head-cases heads b k i (omega arith) inside (λ d j x. (x ≡ noWord → ⊥) → Edge edges′ d j) d j (omega arith)
       (λ _. J .here) (λ _ left. J .kept d j (G .joined d j l m left));
-  cut = λ d j l m. head-cases heads b k i (omega arith) inside (λ d j x. Edge edges′ d j → x ≡ 65535 → ⊥) d j (omega arith)
+  cut = λ d j l m. head-cases heads b k i (omega arith) inside (λ d j x. Edge edges′ d j → x ≡ noWord → ⊥) d j (omega arith)
       (λ _. some) (λ other e. ⊎-elim (λ f. G .cut d j l m f) (λ q. absurd (other (q .0) (q .1))) (J .only d j e));
 }
 
 -- before the first line: all words are left, and all ports free
 pub scheduled-start : {n w : ℕ} {p : ℕ → ℕ} {lent next heads edges : List ℕ} (owner : List ℕ) (reads : ℕ → ℕ → ℕ) → Dims n w → Permutes n p
-    → Linked n w p lent next heads → Drawn w heads edges → length owner ≡ 64 → ((k : ℕ) → k < w → getD owner k 0 ≡ 64)
+    → Linked n w p lent next heads → Drawn w heads edges → length owner ≡ mostWidth → ((k : ℕ) → k < w → getD owner k 0 ≡ unowned)
     → Scheduled n w p reads 0 heads edges owner
 scheduled-start {n} {heads = heads} owner reads D P L G long free = record {
   headed = L .headed;

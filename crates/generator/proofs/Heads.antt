@@ -5,20 +5,21 @@ use mathlib.Core.List.{List}
 use lib.ListN.{length, set}
 use lib.Seq.{getD-set-same, getD-set-other}
 use native.Mathlib.Decide.{ℕ-discrete}
+use Rattle.limits.specs.Limits.{mostWidth}
 use Rattle.tables.proofs.Dims.{word-injective}
 use Rattle.generator.specs.Schedule.{headAt}
 
-module _ (heads : List ℕ) (b k x : ℕ) (m : k < 64) where
-  pub head-other : (d j : ℕ) → j < 64 → (d ≡ b → j ≡ k → ⊥) → headAt (set heads (b * 64 + k) x) d j ≡ headAt heads d j
+module _ (heads : List ℕ) (b k x : ℕ) (m : k < mostWidth) where
+  pub head-other : (d j : ℕ) → j < mostWidth → (d ≡ b → j ≡ k → ⊥) → headAt (set heads (b * mostWidth + k) x) d j ≡ headAt heads d j
   head-other d j q ne =
-      getD-set-other heads (b * 64 + k) (d * 64 + j) x 0 (λ e. let r = word-injective 64 d b j k q m e in ne (r .0) (r .1))
+      getD-set-other heads (b * mostWidth + k) (d * mostWidth + j) x 0 (λ e. let r = word-injective mostWidth d b j k q m e in ne (r .0) (r .1))
 
-  pub head-here : b * 64 + k < length heads → headAt (set heads (b * 64 + k) x) b k ≡ x
-  head-here l = getD-set-same heads (b * 64 + k) x 0 l
+  pub head-here : b * mostWidth + k < length heads → headAt (set heads (b * mostWidth + k) x) b k ≡ x
+  head-here l = getD-set-same heads (b * mostWidth + k) x 0 l
 
   -- what is shown of the changed head, and of any other
-  pub head-cases : b * 64 + k < length heads → (P : ℕ → ℕ → ℕ → Type 0) (d j : ℕ) → j < 64 → P b k x
-      → ((d ≡ b → j ≡ k → ⊥) → P d j (headAt heads d j)) → P d j (headAt (set heads (b * 64 + k) x) d j)
+  pub head-cases : b * mostWidth + k < length heads → (P : ℕ → ℕ → ℕ → Type 0) (d j : ℕ) → j < mostWidth → P b k x
+      → ((d ≡ b → j ≡ k → ⊥) → P d j (headAt heads d j)) → P d j (headAt (set heads (b * mostWidth + k) x) d j)
   head-cases l P d j q here there = elim (ℕ-discrete d b) [
     | no ne ↦ rw (head-other d j q (λ e _. ne e)) (there (λ e _. ne e))
     | yes e ↦ elim (ℕ-discrete j k) [

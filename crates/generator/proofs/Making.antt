@@ -9,7 +9,8 @@ use native.Mathlib.Decide.{decLt}
 use native.Mathlib.Nat.{mod-lt, mul-le-mul-right}
 use lib.ListN.{length, getD}
 use lib.Seq.{getD-take}
-use Rattle.laws.specs.Permutation.{Permutes, inverse}
+use Rattle.limits.specs.Limits.{mostWidth}
+use Rattle.laws.specs.Permutation.{Permutes}
 use Rattle.laws.proofs.Permutations.{permutes-ext}
 use Rattle.bits.specs.Bits.{Bytes}
 use Rattle.bits.specs.Writing.{wholeOf}
@@ -109,7 +110,7 @@ module _ {n w : ℕ} {p : ℕ → ℕ} {reads : ℕ → ℕ → ℕ} {t : ℕ} {
             ap (λ (z : ℕ). getD back (getD forward z 0) 0) (sym (k .2)) ∙ ap (λ (z : ℕ). getD back z 0) (L .ahead (k .0) (k .1))
             ∙ L .from (k .0) (k .1) ∙ k .2
         | no b ↦
-            let s : x < 64 = omega (arith, lines-few D) in
+            let s : x < mostWidth = omega (arith, lines-few D) in
             ap (λ (z : ℕ). getD back z 0) (L .blank .ahead-spare x (omega arith) s) ∙ L .blank .from-spare x (omega arith) s
       ]
 

@@ -8,6 +8,7 @@ use native.Mathlib.Omega.{arith}
 use native.Mathlib.Decide.{ℕ-discrete, decLt}
 use native.Mathlib.Nat.{mod-lt}
 use lib.ListN.{length, getD}
+use Rattle.limits.specs.Limits.{mostWidth, noWord, mostWords}
 use Rattle.laws.specs.Sum.{sum, is, hits}
 use Rattle.laws.specs.Permutation.{Injective, Permutes}
 use Rattle.laws.proofs.Sums.{is-ne, sum-le, sum-change}
@@ -43,7 +44,7 @@ module _ {n w : ℕ} {p : ℕ → ℕ} {reads : ℕ → ℕ → ℕ} {t : ℕ} {
     head-inside : (k : ℕ) → k < w → headAt heads (getD own k 0) k < n
     head-inside k l = S .cut (getD own k 0) k (P .permutes .below k l) l (P .along k l)
 
-    pub due-takeable : length own ≡ 64 → Takeable next heads edges own w
+    pub due-takeable : length own ≡ mostWidth → Takeable next heads edges own w
     due-takeable long = record {
       few = U .dims .narrow;
       heads-long = S .headed .long;
@@ -55,7 +56,7 @@ module _ {n w : ℕ} {p : ℕ → ℕ} {reads : ℕ → ℕ → ℕ} {t : ℕ} {
     }
 
     module _ {words heads′ edges′ owner′ : List ℕ} (T : Takes next heads edges own w words heads′ edges′ owner′) where
-      few : n ≤ 4096
+      few : n ≤ mostWords
       few = U .dims .few
 
       inside : (k : ℕ) → k < w → getD words k 0 < n
@@ -76,7 +77,7 @@ module _ {n w : ℕ} {p : ℕ → ℕ} {reads : ℕ → ℕ → ℕ} {t : ℕ} {
         | no ne ↦ rw (T .still b k (omega (arith, U .dims .narrow)) (λ _. ne)) (there ne)
       ]
 
-      next-limit : (k : ℕ) → k < w → (getD next (getD words k 0) 0 ≡ 65535 → ⊥) → getD next (getD words k 0) 0 < n
+      next-limit : (k : ℕ) → k < w → (getD next (getD words k 0) 0 ≡ noWord → ⊥) → getD next (getD words k 0) 0 < n
       next-limit k l ne = elim (decLt (getD next (getD words k 0) 0) n) [
         | yes q ↦ q
         | no q ↦ absurd (ne (U .chained .limit (getD words k 0) (inside k l) q))
@@ -99,7 +100,7 @@ module _ {n w : ℕ} {p : ℕ → ℕ} {reads : ℕ → ℕ → ℕ} {t : ℕ} {
         here = λ b k l m. heads-cases (λ d x. x < n → (x % w ≡ d) × (p x % w ≡ k)) b k m
             (λ q. let a = U .chained .later (getD words k 0) (inside k m) q .1 in (sym (a .0) ∙ at k m .0, sym (a .1) ∙ at k m .1))
             (λ _. S .headed .here b k l m);
-        limit = λ b k l m. heads-cases (λ d x. (x < n → ⊥) → x ≡ 65535) b k m
+        limit = λ b k l m. heads-cases (λ d x. (x < n → ⊥) → x ≡ noWord) b k m
             (U .chained .limit (getD words k 0) (inside k m)) (λ _. S .headed .limit b k l m);
       }
 
@@ -131,8 +132,8 @@ module _ {n w : ℕ} {p : ℕ → ℕ} {reads : ℕ → ℕ → ℕ} {t : ℕ} {
           held k l h = T .same k (λ _ e. h (T .freed k l e))
 
           fewer : (b : ℕ) → b < w → (k : ℕ) → k < w → is (getD owner′ k 0) b ≤ is (getD own k 0) b
-          fewer b l k m = elim (ℕ-discrete (getD next (getD words k 0) 0) 65535) [
-            | yes e ↦ rw (T .freed k m e) (omega (arith, is-ne 64 b (λ z. omega (arith, U .dims .narrow))))
+          fewer b l k m = elim (ℕ-discrete (getD next (getD words k 0) 0) noWord) [
+            | yes e ↦ rw (T .freed k m e) (omega (arith, is-ne mostWidth b (λ z. omega (arith, U .dims .narrow))))
             | no ne ↦ rw (T .same k (λ _ e. ne e)) (omega arith)
           ]
 

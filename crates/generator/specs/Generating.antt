@@ -3,6 +3,7 @@ use Prim.Native.Nat.{ℕ, _+_, _*_, _%_, _≤_}
 use mathlib.Core.Path.{_≡_}
 use mathlib.Core.List.{List, _++_}
 use lib.ListN.{length, getD, drop}
+use Rattle.limits.specs.Limits.{mostWords, mostWidth}
 use Rattle.laws.specs.Choice.{ifLt, ifEq}
 use Rattle.refusal.specs.declared.Refusal.{Refusal}
 use Rattle.refusal.specs.declared.Refusal.the-variants.{FrameSize, Width, Uneven, BufferShort}
@@ -22,9 +23,9 @@ scratchNeed n = 4 * n + 1024
 unfoldable pub checksOf : ℕ → ℕ → List ℕ → ℕ → ℕ → Checked
 checksOf n w images room scratch =
     ifLt n 1 (Refused FrameSize)
-    (ifLt 4096 n (Refused FrameSize)
+    (ifLt mostWords n (Refused FrameSize)
     (ifLt w 1 (Refused Width)
-    (ifLt 64 w (Refused Width)
+    (ifLt mostWidth w (Refused Width)
     (ifEq (n % w) 0
     (ifLt (length images) n (Refused BufferShort)
     (ifLt room (fileLength n w) (Refused BufferShort) (ifLt scratch (scratchNeed n) (Refused BufferShort) (checkOf images n))))

@@ -6,17 +6,22 @@ use mathlib.Core.Path.{_≡_}
 use mathlib.Core.List.{List}
 use mathlib.Core.Logic.{_⊎_}
 use lib.ListN.{length, getD, set}
+use Rattle.limits.specs.Limits.{mostWidth, noWord}
 use Rattle.laws.specs.Choice.{ifLe, ifEq}
 use Rattle.laws.specs.Sum.{sum, is}
 use Rattle.laws.specs.Permutation.{Injective, Permutes, inverse}
 use Rattle.matching.specs.Graph.{Edge, Released}
-use Rattle.matching.specs.Matching.{Matches}
+use Rattle.matching.specs.Matching.{Matches, unowned}
 use Rattle.tables.specs.Terms.{Dims, cycles}
 use Rattle.tables.specs.Generated.{wordOf, portOf}
 
+-- a head for each bank and port
+abbrev pub headCount : ℕ
+headCount = mostWidth * mostWidth
+
 -- the head of bank b and port k
 abbrev pub headAt : List ℕ → ℕ → ℕ → ℕ
-headAt heads b k = getD heads (b * 64 + k) 0
+headAt heads b k = getD heads (b * mostWidth + k) 0
 
 -- words i and j go from the same bank to the same port
 abbrev pub Alike : ℕ → (ℕ → ℕ) → ℕ → ℕ → Type 0
@@ -26,14 +31,14 @@ Alike w p i j = (i % w ≡ j % w) × (p i % w ≡ p j % w)
 pub record Chained (n w : ℕ) (p : ℕ → ℕ) (next : List ℕ) : Type 0 where
   -- it is a later word, alike, with none between; or there is none
   pub later : (i : ℕ) → i < n → getD next i 0 < n → (i < getD next i 0) × Alike w p i (getD next i 0)
-  pub limit : (i : ℕ) → i < n → (getD next i 0 < n → ⊥) → getD next i 0 ≡ 65535
+  pub limit : (i : ℕ) → i < n → (getD next i 0 < n → ⊥) → getD next i 0 ≡ noWord
   pub between : (i j : ℕ) → i < j → j < n → Alike w p i j → getD next i 0 ≤ j
 
 -- each head is a word of its bank and port, or there is none
 pub record Headed (n w : ℕ) (p : ℕ → ℕ) (heads : List ℕ) : Type 0 where
-  pub long : length heads ≡ 4096
+  pub long : length heads ≡ headCount
   pub here : (b k : ℕ) → b < w → k < w → headAt heads b k < n → (headAt heads b k % w ≡ b) × (p (headAt heads b k) % w ≡ k)
-  pub limit : (b k : ℕ) → b < w → k < w → (headAt heads b k < n → ⊥) → headAt heads b k ≡ 65535
+  pub limit : (b k : ℕ) → b < w → k < w → (headAt heads b k < n → ⊥) → headAt heads b k ≡ noWord
 
 -- how many words are left to be sent from bank b to port k
 unfoldable pub left : ℕ → ℕ → (ℕ → ℕ) → List ℕ → ℕ → ℕ → ℕ
@@ -43,8 +48,8 @@ left n w p heads b k = sum n (λ i. is (i % w) b * (is (p i % w) k * ifLe (headA
 pub record Scheduled (n w : ℕ) (p : ℕ → ℕ) (reads : ℕ → ℕ → ℕ) (t : ℕ) (heads edges owner : List ℕ) : Type 0 where
   pub headed : Headed n w p heads
   -- the graph has an edge where a word is left, and the kept owners are a matching in it
-  pub edges-long : length edges ≡ 64
-  pub owner-long : length owner ≡ 64
+  pub edges-long : length edges ≡ mostWidth
+  pub owner-long : length owner ≡ mostWidth
   pub joined : (b k : ℕ) → b < w → k < w → headAt heads b k < n → Edge edges b k
   pub cut : (b k : ℕ) → b < w → k < w → Edge edges b k → headAt heads b k < n
   pub matches : Matches (Edge edges) w owner
@@ -67,7 +72,7 @@ extended reads t line s b = ifEq s t (line b) (reads s b)
 
 -- a line more: word k of `words` goes to port k, from a bank of its own
 pub record Took (n w : ℕ) (p : ℕ → ℕ) (reads : ℕ → ℕ → ℕ) (t : ℕ) (words heads edges owner : List ℕ) : Type 0 where
-  pub long : length words ≡ 64
+  pub long : length words ≡ mostWidth
   pub inside : (k : ℕ) → k < w → getD words k 0 < n
   pub ported : (k : ℕ) → k < w → p (getD words k 0) % w ≡ k
   pub banked : Permutes w (λ k. getD words k 0 % w)
@@ -83,42 +88,42 @@ pub record Linked (n w : ℕ) (p : ℕ → ℕ) (lent next heads : List ℕ) : T
 
 -- the graph of the heads
 pub record Drawn (w : ℕ) (heads edges : List ℕ) : Type 0 where
-  pub long : length edges ≡ 64
-  pub joined : (b k : ℕ) → b < w → k < w → (headAt heads b k ≡ 65535 → ⊥) → Edge edges b k
-  pub cut : (b k : ℕ) → b < w → k < w → Edge edges b k → headAt heads b k ≡ 65535 → ⊥
+  pub long : length edges ≡ mostWidth
+  pub joined : (b k : ℕ) → b < w → k < w → (headAt heads b k ≡ noWord → ⊥) → Edge edges b k
+  pub cut : (b k : ℕ) → b < w → k < w → Edge edges b k → headAt heads b k ≡ noWord → ⊥
 
 -- the word of port k and its owner is taken: the head moves on, and where no word is left the edge goes and the port is free
 pub record Advanced (next heads edges owner : List ℕ) (k word : ℕ) (heads′ edges′ owner′ : List ℕ) : Type 0 where
   pub head : word ≡ headAt heads (getD owner k 0) k
-  pub moved : heads′ ≡ set heads (getD owner k 0 * 64 + k) (getD next word 0)
-  pub kept : (getD next word 0 ≡ 65535 → ⊥) → (edges′ ≡ edges) × (owner′ ≡ owner)
-  pub released : getD next word 0 ≡ 65535 → Released edges owner k edges′ owner′
+  pub moved : heads′ ≡ set heads (getD owner k 0 * mostWidth + k) (getD next word 0)
+  pub kept : (getD next word 0 ≡ noWord → ⊥) → (edges′ ≡ edges) × (owner′ ≡ owner)
+  pub released : getD next word 0 ≡ noWord → Released edges owner k edges′ owner′
 
 -- every port has an owner with an edge to it and a word left for it
 pub record Takeable (next heads edges owner : List ℕ) (w : ℕ) : Type 0 where
-  pub few : w ≤ 64
-  pub heads-long : length heads ≡ 4096
-  pub edges-long : length edges ≡ 64
-  pub owner-long : length owner ≡ 64
+  pub few : w ≤ mostWidth
+  pub heads-long : length heads ≡ headCount
+  pub edges-long : length edges ≡ mostWidth
+  pub owner-long : length owner ≡ mostWidth
   pub owned : (k : ℕ) → k < w → getD owner k 0 < w
   pub along : (k : ℕ) → k < w → Edge edges (getD owner k 0) k
   pub inside : (k : ℕ) → k < w → headAt heads (getD owner k 0) k < length next
 
 -- a word of each port below m is taken: `words` has that of port k at k
 pub record Takes (next heads edges owner : List ℕ) (m : ℕ) (words heads′ edges′ owner′ : List ℕ) : Type 0 where
-  pub long : length words ≡ 64
-  pub heads-long : length heads′ ≡ 4096
-  pub edges-long : length edges′ ≡ 64
-  pub owner-long : length owner′ ≡ 64
+  pub long : length words ≡ mostWidth
+  pub heads-long : length heads′ ≡ headCount
+  pub edges-long : length edges′ ≡ mostWidth
+  pub owner-long : length owner′ ≡ mostWidth
   pub word : (k : ℕ) → k < m → getD words k 0 ≡ headAt heads (getD owner k 0) k
   pub moved : (k : ℕ) → k < m → headAt heads′ (getD owner k 0) k ≡ getD next (getD words k 0) 0
-  pub still : (b k : ℕ) → k < 64 → (k < m → b ≡ getD owner k 0 → ⊥) → headAt heads′ b k ≡ headAt heads b k
+  pub still : (b k : ℕ) → k < mostWidth → (k < m → b ≡ getD owner k 0 → ⊥) → headAt heads′ b k ≡ headAt heads b k
   pub only : (b k : ℕ) → Edge edges′ b k → Edge edges b k
-  pub gone : (k : ℕ) → k < m → getD next (getD words k 0) 0 ≡ 65535 → Edge edges′ (getD owner k 0) k → ⊥
+  pub gone : (k : ℕ) → k < m → getD next (getD words k 0) 0 ≡ noWord → Edge edges′ (getD owner k 0) k → ⊥
   pub kept : (b k : ℕ) → Edge edges b k
-      → Edge edges′ b k ⊎ ((k < m) × (b ≡ getD owner k 0) × (getD next (getD words k 0) 0 ≡ 65535))
-  pub freed : (k : ℕ) → k < m → getD next (getD words k 0) 0 ≡ 65535 → getD owner′ k 0 ≡ 64
-  pub same : (k : ℕ) → (k < m → getD next (getD words k 0) 0 ≡ 65535 → ⊥) → getD owner′ k 0 ≡ getD owner k 0
+      → Edge edges′ b k ⊎ ((k < m) × (b ≡ getD owner k 0) × (getD next (getD words k 0) 0 ≡ noWord))
+  pub freed : (k : ℕ) → k < m → getD next (getD words k 0) 0 ≡ noWord → getD owner′ k 0 ≡ unowned
+  pub same : (k : ℕ) → (k < m → getD next (getD words k 0) 0 ≡ noWord → ⊥) → getD owner′ k 0 ≡ getD owner k 0
 
 -- the next line can be taken
 pub record Due (n w : ℕ) (p : ℕ → ℕ) (reads : ℕ → ℕ → ℕ) (t : ℕ) (next heads edges owner : List ℕ) : Type 0 where

@@ -14,8 +14,10 @@ use crate::scheduling::HEADS;
 use crate::scheduling::chain;
 use crate::scheduling::take_line;
 use images::Checked;
+use limits::MOST_SWITCHES;
+use limits::MOST_WIDTH;
+use limits::MOST_WORDS;
 use matching::FREE;
-use matching::MOST;
 use refusal::Refusal;
 use tables::Shape;
 
@@ -26,13 +28,13 @@ fn checks(n: usize, w: usize, images: &[u16], room: usize, scratch: usize) -> Ch
     if n < 1 {
         return Checked::Refused(Refusal::FrameSize);
     }
-    if 4096 < n {
+    if MOST_WORDS < n {
         return Checked::Refused(Refusal::FrameSize);
     }
     if w < 1 {
         return Checked::Refused(Refusal::Width);
     }
-    if 64 < w {
+    if MOST_WIDTH < w {
         return Checked::Refused(Refusal::Width);
     }
     if n % w != 0 {
@@ -55,7 +57,7 @@ fn put_lines(
     images: &[u16],
     next: &[u16],
     heads: &mut [u16; HEADS],
-    edges: &mut [u64; MOST],
+    edges: &mut [u64; MOST_WIDTH],
     shape: Shape,
     file: &mut [u8],
 )
@@ -66,13 +68,13 @@ fn put_lines(
     ensures { λ _. ⌜ ((lines : ℕ → ℕ → ℕ) × Schedule (shape .words) (shape .width) (λ i. getD (now (images .entry)) i 0) lines
         × Written (setBits (shape .words) (shape .width) (λ i. getD (now (images .entry)) i 0) lines) (now (file .entry)) (now (file .exit)) (lineAt (shape .words) (shape .width) (cycles (shape .words) (shape .width)))) ⌝ }
 {
-    let mut owner = [FREE; MOST];
-    let mut words = [0u16; MOST];
-    let mut reads = [0u16; MOST];
+    let mut owner = [FREE; MOST_WIDTH];
+    let mut words = [0u16; MOST_WIDTH];
+    let mut reads = [0u16; MOST_WIDTH];
     let mut forward = tables::numbered();
     let mut back = tables::numbered();
-    let mut writes = [0u16; MOST];
-    let mut switches = [0u8; 321];
+    let mut writes = [0u16; MOST_WIDTH];
+    let mut switches = [0u8; MOST_SWITCHES];
     let mut writer = bits::writer_at(file, shape.start);
     let mut t = 0;
     while t < shape.cycles {
@@ -109,7 +111,7 @@ fn make(images: &[u16], n: usize, w: usize, file: &mut [u8], next: &mut [u16]) -
 {
     let shape = tables::shape_of(n, w);
     packing::put_header(file, n, w);
-    let mut edges = [0u64; MOST];
+    let mut edges = [0u64; MOST_WIDTH];
     let mut heads = chain(images, n, w, next, &mut edges);
     put_lines(images, next, &mut heads, &mut edges, shape, file);
     packing::put_filling(file, shape);

@@ -3,19 +3,18 @@
 ghost use mathlib.Core.Path.{_≡_};
 ghost use Prim.Native.Nat.{ℕ, _+_, _*_, _%_, _<_, _≤_};
 ghost use lib.ListN.{length, getD, replicate};
+ghost use Rattle.limits.specs.Limits.{mostWidth};
 ghost use Rattle.matching.specs.Graph.{Edge};
 ghost use Rattle.tables.specs.Terms.{Dims};
-ghost use Rattle.generator.specs.Schedule.{headAt, Linked, Drawn, Advanced, Takeable, Takes, Due, Took};
-use matching::MOST;
+ghost use Rattle.generator.specs.Schedule.{headAt, Linked, Drawn, Advanced, Takeable, Takes, Due, Took, headCount};
+use limits::MOST_WIDTH;
+use limits::NO_WORD;
 use matching::complete;
 use matching::join;
 use matching::release;
 
-// Stands for no word.
-const NONE: u16 = 65535;
-
 // The heads: one for each bank and port.
-pub const HEADS: usize = 4096;
+pub const HEADS: usize = MOST_WIDTH * MOST_WIDTH;
 
 // The image of word i.
 pub fn image(images: &[u16], i: usize) -> usize
@@ -40,20 +39,20 @@ pub fn chain(
     n: usize,
     w: usize,
     next: &mut [u16],
-    edges: &mut [u64; MOST],
+    edges: &mut [u64; MOST_WIDTH],
 ) -> [u16; HEADS]
     requires { ⌜ (Dims n w) × (n ≤ length (now images)) × (n ≤ length (now next)) ⌝ }
-    requires { ⌜ now edges ≡ replicate 64 0 ⌝ }
+    requires { ⌜ now edges ≡ replicate mostWidth 0 ⌝ }
     ensures { λ r. ⌜ Linked n w (λ i. getD (now (images .entry)) i 0) (now (next .entry)) (now (next .exit)) r × Drawn w r (now (edges .exit)) ⌝ }
 {
-    let mut heads = [NONE; HEADS];
+    let mut heads = [NO_WORD; HEADS];
     let mut bank = 0;
     let mut i = n;
     while 0 < i {
         i -= 1;
         bank = bank_before(bank, w);
         let port = image(images, i) % w;
-        let place = bank * MOST + port;
+        let place = bank * MOST_WIDTH + port;
         next[i] = heads[place];
         heads[place] = i as u16;
         join(edges, bank, port);
@@ -65,19 +64,19 @@ pub fn chain(
 fn take_word(
     next: &[u16],
     heads: &mut [u16; HEADS],
-    edges: &mut [u64; MOST],
-    owner: &mut [u8; MOST],
+    edges: &mut [u64; MOST_WIDTH],
+    owner: &mut [u8; MOST_WIDTH],
     port: usize,
 ) -> u16
-    requires { ⌜ (length (now heads) ≡ 4096) × (length (now edges) ≡ 64) × (length (now owner) ≡ 64) × (port < 64) ⌝ }
-    requires { ⌜ (getD (now owner) port 0 < 64) × Edge (now edges) (getD (now owner) port 0) port × (headAt (now heads) (getD (now owner) port 0) port < length (now next)) ⌝ }
+    requires { ⌜ (length (now heads) ≡ headCount) × (length (now edges) ≡ mostWidth) × (length (now owner) ≡ mostWidth) × (port < mostWidth) ⌝ }
+    requires { ⌜ (getD (now owner) port 0 < mostWidth) × Edge (now edges) (getD (now owner) port 0) port × (headAt (now heads) (getD (now owner) port 0) port < length (now next)) ⌝ }
     ensures { λ r. ⌜ Advanced (now (next .entry)) (now (heads .entry)) (now (edges .entry)) (now (owner .entry)) port r (now (heads .exit)) (now (edges .exit)) (now (owner .exit)) ⌝ }
 {
-    let place = owner[port] as usize * MOST + port;
+    let place = owner[port] as usize * MOST_WIDTH + port;
     let word = heads[place];
     let after = next[word as usize];
     heads[place] = after;
-    if after == NONE {
+    if after == NO_WORD {
         release(edges, owner, port);
     }
     word
@@ -87,13 +86,13 @@ fn take_word(
 fn take_words(
     next: &[u16],
     heads: &mut [u16; HEADS],
-    edges: &mut [u64; MOST],
-    owner: &mut [u8; MOST],
-    words: &mut [u16; MOST],
+    edges: &mut [u64; MOST_WIDTH],
+    owner: &mut [u8; MOST_WIDTH],
+    words: &mut [u16; MOST_WIDTH],
     w: usize,
 )
     requires { ⌜ Takeable (now next) (now heads) (now edges) (now owner) w ⌝ }
-    requires { ⌜ length (now words) ≡ 64 ⌝ }
+    requires { ⌜ length (now words) ≡ mostWidth ⌝ }
     ensures { λ _. ⌜ Takes (now (next .entry)) (now (heads .entry)) (now (edges .entry)) (now (owner .entry)) w (now (words .exit)) (now (heads .exit)) (now (edges .exit)) (now (owner .exit)) ⌝ }
 {
     let mut k = 0;
@@ -107,13 +106,13 @@ fn take_words(
 pub fn take_line(
     next: &[u16],
     heads: &mut [u16; HEADS],
-    edges: &mut [u64; MOST],
-    owner: &mut [u8; MOST],
-    words: &mut [u16; MOST],
+    edges: &mut [u64; MOST_WIDTH],
+    owner: &mut [u8; MOST_WIDTH],
+    words: &mut [u16; MOST_WIDTH],
     w: usize,
 )
     requires { ⌜ ((n : ℕ) × (p : ℕ → ℕ) × (reads : ℕ → ℕ → ℕ) × (t : ℕ) × Due n w p reads t (now next) (now heads) (now edges) (now owner)) ⌝ }
-    requires { ⌜ length (now words) ≡ 64 ⌝ }
+    requires { ⌜ length (now words) ≡ mostWidth ⌝ }
     ensures { λ _. ⌜ ((n : ℕ) (p : ℕ → ℕ) (reads : ℕ → ℕ → ℕ) (t : ℕ) → Due n w p reads t (now (next .entry)) (now (heads .entry)) (now (edges .entry)) (now (owner .entry))
         → Took n w p reads t (now (words .exit)) (now (heads .exit)) (now (edges .exit)) (now (owner .exit))) ⌝ }
 {

@@ -1,36 +1,34 @@
 -- Laws of the checks. One element more: the scan from i on is decided at i or is the scan from i + 1 on, and the marks of earlier
 -- images grow by one. The scan finds nothing exactly where the images are a permutation.
-use Prim.Native.Nat.{ℕ, zero, suc, _+_, _-_, _<_, _≤_}
+use Prim.Native.Nat.{ℕ, suc, _+_, _-_, _<_, _≤_}
 use mathlib.Core.Path.{_≡_, refl, sym, ap, _∙_}
 use mathlib.Core.List.{List}
-use mathlib.Core.Logic.{_⊎_, inl, inr}
 use native.Mathlib.Omega.{arith}
 use native.Mathlib.Numerals.{add-one}
-use native.Mathlib.Decide.{ℕ-discrete, decLe}
+use native.Mathlib.Decide.{ℕ-discrete}
 use lib.ListN.{getD, set, length, replicate, length-replicate, getD-replicate, length-set}
 use lib.Seq.{getD-set-same, getD-set-other}
+use Rattle.limits.specs.Limits.{mostWords}
 use Rattle.laws.specs.Choice.{ifLe, ifEq}
-use Rattle.laws.specs.Permutation.{Permutes}
 use Rattle.laws.proofs.Choices.{ifLe-yes, ifLe-no, ifEq-yes, ifEq-no}
 use Rattle.refusal.specs.declared.Refusal.the-variants.{OutOfRange, Repeated}
-use Rattle.images.specs.declared.Checked.{Checked}
 use Rattle.images.specs.declared.Checked.the-variants.{Permutation, Refused}
 use Rattle.images.specs.Images.{earlier, checkFrom, checkOf}
 
 -- the first i images passed, and seen holds a mark for each
 pub record Scanned (images : List ℕ) (n : ℕ) (seen : List ℕ) (i : ℕ) : Type 0 where
   pub upto : i ≤ n
-  pub long : length seen ≡ 4096
+  pub long : length seen ≡ mostWords
   pub marks : (x : ℕ) → x < n → getD seen x 0 ≡ earlier images i x
   pub rest : checkFrom images n (n - i) i ≡ checkOf images n
 
 module _ (images : List ℕ) (n : ℕ) where
-  pub scanned-none : n ≤ 4096 → Scanned images n (replicate 4096 0) 0
+  pub scanned-none : n ≤ mostWords → Scanned images n (replicate mostWords 0) 0
   unfolding earlier checkOf
   scanned-none few = record {
     upto = omega arith;
-    long = length-replicate {A = ℕ} 4096 0;
-    marks = λ x l. getD-replicate {A = ℕ} 4096 x 0 0 (omega arith);
+    long = length-replicate {A = ℕ} mostWords 0;
+    marks = λ x l. getD-replicate {A = ℕ} mostWords x 0 0 (omega arith);
     rest = ap (λ (k : ℕ). checkFrom images n k 0) (omega arith);
   }
 
@@ -53,7 +51,7 @@ module _ (images : List ℕ) (n : ℕ) where
     pub refused-repeated : i < n → getD images i 0 < n → getD seen (getD images i 0) 0 ≡ 1 → Refused (Repeated i) ≡ checkOf images n
     refused-repeated l h e = ifEq-yes _ 1 _ _ _ (sym (S .marks (getD images i 0) h) ∙ e) refl ∙ sym (in-range l h)
 
-    pub scanned-more : n ≤ 4096 → i < n → getD images i 0 < n → (getD seen (getD images i 0) 0 ≡ 1 → ⊥)
+    pub scanned-more : n ≤ mostWords → i < n → getD images i 0 < n → (getD seen (getD images i 0) 0 ≡ 1 → ⊥)
         → Scanned images n (set seen (getD images i 0) 1) (i + 1)
     unfolding earlier
     scanned-more few l h ne = record {

@@ -8,10 +8,9 @@ use native.Mathlib.Decide.{ℕ-discrete, decLt}
 use lib.ListN.{getD}
 use Rattle.laws.specs.Choice.{ifLe, ifEq}
 use Rattle.laws.specs.Permutation.{Permutes}
-use Rattle.laws.proofs.Choices.{ifLe-yes, ifLe-no, ifLe-cases, ifEq-yes, ifEq-no, ifEq-cases}
+use Rattle.laws.proofs.Choices.{ifLe-yes, ifLe-no, ifEq-yes, ifEq-no}
 use Rattle.refusal.specs.declared.Refusal.{Refusal}
 use Rattle.refusal.specs.declared.Refusal.the-variants.{OutOfRange, Repeated}
-use Rattle.images.specs.declared.Checked.{Checked}
 use Rattle.images.specs.declared.Checked.the-variants.{Permutation, Refused}
 use Rattle.images.specs.Images.{earlier, checkFrom, checkOf}
 

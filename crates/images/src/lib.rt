@@ -2,11 +2,10 @@
 ghost use mathlib.Core.Path.{_≡_};
 ghost use Prim.Native.Nat.{_≤_};
 ghost use lib.ListN.{length};
+ghost use Rattle.limits.specs.Limits.{mostWords};
 ghost use Rattle.images.specs.Images.{checkOf};
+use limits::MOST_WORDS;
 use refusal::Refusal;
-
-// The longest list that can be checked. It is a constant so that `seen` has a fixed size.
-pub const MOST: usize = 4096;
 
 pub enum Checked {
     Permutation,
@@ -15,10 +14,10 @@ pub enum Checked {
 
 // Whether the first n images are a permutation of 0 .. n - 1. Only our own crates call it, after their tests of n and of the length.
 pub fn check(images: &[u16], n: usize) -> Checked
-    requires { ⌜ (n ≤ 4096) × (n ≤ length (now images)) ⌝ }
+    requires { ⌜ (n ≤ mostWords) × (n ≤ length (now images)) ⌝ }
     ensures { λ r. ⌜ r ≡ checkOf (now (images .entry)) n ⌝ }
 {
-    let mut seen = [0u8; MOST];
+    let mut seen = [0u8; MOST_WORDS];
     let mut i: usize = 0;
     while i < n {
         let image = images[i] as usize;

@@ -1,15 +1,15 @@
 -- Laws of permutations of 0 .. n - 1. An injective map into itself meets every number (pigeonhole), so its inverse, which is found by
 -- search, is one on both sides and a permutation too. A map that meets every number is a permutation, since its inverse is one. A sum
 -- over a permutation is the sum.
-use Prim.Native.Nat.{ℕ, zero, suc, _+_, _*_, _<_}
+use Prim.Native.Nat.{ℕ, zero, suc, _*_, _<_}
 use mathlib.Core.Path.{_≡_, refl, ap, sym, subst, _∙_}
 use native.Mathlib.Nat.{mul-comm, mul-one}
 use native.Mathlib.Omega.{arith}
 use native.Mathlib.Decide.{ℕ-discrete}
 use Rattle.laws.specs.Choice.{ifEq}
 use Rattle.laws.specs.Sum.{sum, is, hits}
-use Rattle.laws.specs.Permutation.{Injective, Permutes, inverse}
-use Rattle.laws.proofs.Choices.{ifEq-yes, ifEq-no, ifEq-cases}
+use Rattle.laws.specs.Permutation.{Permutes, inverse}
+use Rattle.laws.proofs.Choices.{ifEq-cases}
 use Rattle.laws.proofs.Sums.{sum-ext, sum-mul, sum-swap, sum-pick}
 use Rattle.laws.proofs.Pigeonhole.{hits-one, hits-positive}
 

@@ -1,8 +1,8 @@
 -- The pigeonhole principle, by counting: an injective map meets each value at most once, and the values counted over all arguments
 -- are as many as the arguments. So an injective map of n numbers into m has n ≤ m, one of 0 .. n - 1 into itself meets every number,
 -- and one that misses no number repeats none.
-use Prim.Native.Nat.{ℕ, zero, suc, _+_, _*_, _≤_, _<_, zero-le}
-use mathlib.Core.Path.{_≡_, refl, ap, sym, _∙_}
+use Prim.Native.Nat.{ℕ, zero, suc, _+_, _≤_, _<_, zero-le}
+use mathlib.Core.Path.{_≡_, ap, sym, _∙_}
 use mathlib.Core.Logic.{_⊎_, inl, inr, ⊎-elim}
 use native.Mathlib.Nat.{mul-one, le-trans, le-of-eq}
 use native.Mathlib.Omega.{arith}

@@ -2,7 +2,7 @@
 -- indicator, by which things are counted. Each by induction on the number of terms.
 use Prim.Native.Nat.{ℕ, zero, suc, _+_, _*_, _≤_, _<_}
 use mathlib.Core.Path.{_≡_, refl, ap, ap₂, sym, _∙_}
-use native.Mathlib.Nat.{mul-zero, zero-mul, one-mul, mul-add, mul-comm, suc-mul, le-refl, le-step, lt-suc-self, add-le-add, add-zero, add-suc, add-assoc}
+use native.Mathlib.Nat.{mul-zero, zero-mul, one-mul, mul-add, suc-mul, le-refl, le-step, lt-suc-self, add-le-add, add-zero, add-suc, add-assoc}
 use native.Mathlib.Omega.{arith}
 use native.Mathlib.Decide.{ℕ-discrete}
 use Rattle.laws.specs.Choice.{ifEq}

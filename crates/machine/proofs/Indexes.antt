@@ -5,6 +5,7 @@ use mathlib.Core.List.{List}
 use native.Mathlib.Omega.{arith}
 use native.Mathlib.Numerals.{add-one}
 use lib.ListN.{getD, set}
+use Rattle.limits.specs.Limits.{mostWords}
 use Rattle.tables.specs.Terms.{cycles}
 use Rattle.tables.specs.Format.{shapeOf}
 use Rattle.tables.specs.declared.Shape.{Shape}
@@ -23,7 +24,7 @@ module _ (s : Shape) (D : Dims (s .words) (s .width)) (e : s ≡ shapeOf (s .wor
   index-inside half bank inside =
       omega (arith, index-spot, spot-below (cycles (s .words) (s .width)) h b p half inside (s .width) bank, banks-size D)
 
-pub shape-few : (s : Shape) → Dims (s .words) (s .width) → s ≡ shapeOf (s .words) (s .width) → s .cycles ≤ 4096
+pub shape-few : (s : Shape) → Dims (s .words) (s .width) → s ≡ shapeOf (s .words) (s .width) → s .cycles ≤ mostWords
 shape-few s D e = omega (arith, shape-cycles s e, cycles-few D)
 
 -- one word more has entered

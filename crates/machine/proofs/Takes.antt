@@ -11,6 +11,7 @@ use lib.Dec.{eqb}
 use lib.ListN.{length, getD, set}
 use lib.Seq.{ext-getD}
 use borrow.Author.Tests.{eqb-true, eqb-false}
+use Rattle.limits.specs.Limits.{mostWidth}
 use Rattle.laws.specs.Any.{any}
 use Rattle.laws.specs.Permutation.{Injective, Permutes}
 use Rattle.laws.proofs.Anys.{any-true, any-false}
@@ -79,9 +80,9 @@ takenWord c h first reads sources k = getD first (spot c (1 - h) (getD sources k
 
 -- what a line was found to do, within its bounds
 pub record Takes (n w : ℕ) (reads sources writes : List ℕ) : Type 0 where
-  pub reads-long : length reads ≡ 64
-  pub sources-long : length sources ≡ 64
-  pub writes-long : length writes ≡ 64
+  pub reads-long : length reads ≡ mostWidth
+  pub sources-long : length sources ≡ mostWidth
+  pub writes-long : length writes ≡ mostWidth
   pub reads-below : (b : ℕ) → b < w → getD reads b 0 < cycles n w
   pub sources-below : (k : ℕ) → k < w → getD sources k 0 < w
   pub writes-below : (k : ℕ) → k < w → getD writes k 0 < cycles n w

@@ -2,7 +2,7 @@
 use Prim.Native.Nat.{ℕ}
 use mathlib.Core.List.{List}
 use Rattle.refusal.specs.Refusals.{numberOf, placeOf}
-use Rattle.machine.specs.Devices.{Said, filling, wrote, refused, Seen, seen, Feed, feed, After}
+use Rattle.machine.specs.Devices.{Said, filling, wrote, refused, seen, Feed, feed, After}
 use Rattle.machine.specs.Step.{Outcome, outcome, stepOf}
 use Rattle.machine.specs.declared.Clock.{Clock}
 use Rattle.machine.specs.declared.Stepped.{Stepped}

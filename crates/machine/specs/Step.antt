@@ -1,7 +1,6 @@
 -- One step of the cycle machine (document 01, "The cycle machine"). "Bank b's address p is word 2cb + p. Half 0 of a bank is addresses
 -- 0 to c-1, half 1 is c to 2c-1."
 use Prim.Native.Nat.{ℕ, zero, suc, _+_, _*_, _-_, min}
-use mathlib.Core.Bool.{Bool}
 use mathlib.Core.List.{List}
 use lib.ListN.{length, getD, set}
 use Rattle.laws.specs.Choice.{choose, ifLt, ifLe, ifEq}
@@ -11,7 +10,6 @@ use Rattle.refusal.specs.declared.Refusal.the-variants.{BufferShort, WordCount,
 use Rattle.tables.specs.Terms.{cycles}
 use Rattle.tables.specs.Format.{readAddress, writeAddress, openOf}
 use Rattle.tables.specs.Datapath.{carriedTo, readStrays, carryStrays, writeStrays}
-use Rattle.tables.specs.declared.Shape.{Shape}
 use Rattle.tables.specs.declared.Opened.{Opened}
 use Rattle.tables.specs.declared.Opened.the-variants.{Set, Refused as Unopened}
 use Rattle.machine.specs.declared.Clock.{Clock}

@@ -4,6 +4,7 @@ ghost use mathlib.Core.Bool.{false};
 ghost use mathlib.Core.List.{List};
 ghost use Prim.Native.Nat.{ℕ, _*_, _<_, _≤_};
 ghost use lib.ListN.{length};
+ghost use Rattle.limits.specs.Limits.{mostWords};
 ghost use Rattle.laws.specs.Choice.{ifLt};
 ghost use Rattle.laws.specs.Tabulate.{overwrite};
 ghost use Rattle.tables.specs.Terms.{Dims, cycles};
@@ -14,6 +15,8 @@ ghost use Rattle.machine.specs.Step.{spot, nextClock, leaving, moving, e
 ghost use Rattle.machine.specs.declared.Stepped.the-variants.{Filling, Wrote, Refused};
 use crate::Clock;
 use crate::Stepped;
+use limits::MOST_SWITCHES;
+use limits::MOST_WIDTH;
 use refusal::Refusal;
 use tables::Opened;
 use tables::Shape;
@@ -94,7 +97,7 @@ fn enter(first: &mut [u16], shape: Shape, clock: Clock, words: &[u16])
 
 // What an accepted step says.
 fn answer(clock: Clock, cycles: usize) -> Stepped
-    requires { ⌜ (clock .cycle < cycles) × (cycles ≤ 4096) × (clock .half < 2) × (clock .fill ≤ 2) ⌝ }
+    requires { ⌜ (clock .cycle < cycles) × (cycles ≤ mostWords) × (clock .half < 2) × (clock .fill ≤ 2) ⌝ }
     ensures { λ r. ⌜ r ≡ ifLt (clock .fill) 2 (Filling (nextClock cycles clock)) (Wrote (nextClock cycles clock)) ⌝ }
 {
     let next = clock.next(cycles);
@@ -143,10 +146,10 @@ fn step_line(
     requires { ⌜ (clock .cycle < cycles (shape .words) (shape .width)) × (clock .half < 2) × (1 ≤ clock .fill) × (clock .fill ≤ 2) ⌝ }
     ensures { λ r. ⌜ outcome r (now (first .exit)) (now (second .exit)) (now (out .exit)) ≡ lineTest (shape .words) (shape .width) (now (file .entry)) clock (λ refusal. outcome (Refused refusal) (now (first .entry)) (now (second .entry)) (now (out .entry))) (accepted (shape .words) (shape .width) (now (file .entry)) clock (now (first .entry)) (now (second .entry)) (now (words .entry)) (now (out .entry))) ⌝ }
 {
-    let mut setting = [0u8; 321];
-    let mut reads = [0u16; 64];
-    let mut sources = [0u8; 64];
-    let mut writes = [0u16; 64];
+    let mut setting = [0u8; MOST_SWITCHES];
+    let mut reads = [0u16; MOST_WIDTH];
+    let mut sources = [0u8; MOST_WIDTH];
+    let mut writes = [0u16; MOST_WIDTH];
     line_at(
         file,
         shape,

@@ -3,6 +3,7 @@
 // crates call these functions, so they may have a `requires`.
 mod sets;
 
+use limits::MOST_WIDTH;
 use sets::below;
 use sets::lowest;
 use sets::minus;
@@ -11,15 +12,13 @@ use sets::without;
 ghost use mathlib.Core.Path.{_≡_};
 ghost use Prim.Native.Nat.{ℕ, _≤_, _<_};
 ghost use lib.ListN.{length, getD};
+ghost use Rattle.limits.specs.Limits.{mostWidth};
 ghost use Rattle.matching.specs.Graph.{Edge, Joined, Released};
 ghost use Rattle.matching.specs.Matching.{Matches, Completes};
 ghost use Rattle.matching.specs.Search.{Ready, Searched, Surveyed};
 
-// The most banks, and the most ports.
-pub const MOST: usize = 64;
-
 // In place of the owner of a port that has none.
-pub const FREE: u8 = 64;
+pub const FREE: u8 = MOST_WIDTH as u8;
 
 // What `complete` answers.
 pub enum Completed {
@@ -44,8 +43,8 @@ struct Census {
 }
 
 // Adds an edge to the graph.
-pub fn join(edges: &mut [u64; MOST], bank: usize, port: usize)
-    requires { ⌜ (length (now edges) ≡ 64) × (bank < 64) × (port < 64) ⌝ }
+pub fn join(edges: &mut [u64; MOST_WIDTH], bank: usize, port: usize)
+    requires { ⌜ (length (now edges) ≡ mostWidth) × (bank < mostWidth) × (port < mostWidth) ⌝ }
     ensures { λ _. ⌜ Joined (now (edges .entry)) bank port (now (edges .exit)) ⌝ }
 {
     let ports = edges[bank];
@@ -53,9 +52,9 @@ pub fn join(edges: &mut [u64; MOST], bank: usize, port: usize)
 }
 
 // Takes the edge to a port from its owner out of the graph, and frees the port.
-pub fn release(edges: &mut [u64; MOST], owner: &mut [u8; MOST], port: usize)
-    requires { ⌜ (length (now edges) ≡ 64) × (length (now owner) ≡ 64) × (port < 64) ⌝ }
-    requires { ⌜ (getD (now owner) port 0 < 64) × Edge (now edges) (getD (now owner) port 0) port ⌝ }
+pub fn release(edges: &mut [u64; MOST_WIDTH], owner: &mut [u8; MOST_WIDTH], port: usize)
+    requires { ⌜ (length (now edges) ≡ mostWidth) × (length (now owner) ≡ mostWidth) × (port < mostWidth) ⌝ }
+    requires { ⌜ (getD (now owner) port 0 < mostWidth) × Edge (now edges) (getD (now owner) port 0) port ⌝ }
     ensures { λ _. ⌜ Released (now (edges .entry)) (now (owner .entry)) port (now (edges .exit)) (now (owner .exit)) ⌝ }
 {
     let bank = owner[port] as usize;
@@ -66,13 +65,13 @@ pub fn release(edges: &mut [u64; MOST], owner: &mut [u8; MOST], port: usize)
 
 // Finds a port for a bank: a free one, or else an unseen one whose owner finds another. The width w stands in the contract alone.
 fn augment(
-    edges: &[u64; MOST],
-    owner: &mut [u8; MOST],
+    edges: &[u64; MOST_WIDTH],
+    owner: &mut [u8; MOST_WIDTH],
     free: u64,
     unseen: u64,
     bank: usize,
 ) -> Search
-    requires { ⌜ length (now edges) ≡ 64 ⌝ }
+    requires { ⌜ length (now edges) ≡ mostWidth ⌝ }
     requires { ⌜ ((w : ℕ) × Ready (Edge (now edges)) w (now owner) free unseen bank) ⌝ }
     ensures { λ r. ⌜ ((w : ℕ) → Ready (Edge (now (edges .entry))) w (now (owner .entry)) free unseen bank
         → Searched (Edge (now (edges .entry))) w (now (owner .entry)) free unseen bank (now (owner .exit)) r) ⌝ }
@@ -100,9 +99,9 @@ fn augment(
 }
 
 // Looks at all owners once. A quotient tells a free port, and no branch, since nothing foretells which ports are free.
-fn survey(width: usize, owner: &[u8; MOST]) -> Census
-    requires { ⌜ (width ≤ 64) × (length (now owner) ≡ 64) ⌝ }
-    requires { ⌜ ((k : ℕ) → k < width → getD (now owner) k 0 ≤ 64) ⌝ }
+fn survey(width: usize, owner: &[u8; MOST_WIDTH]) -> Census
+    requires { ⌜ (width ≤ mostWidth) × (length (now owner) ≡ mostWidth) ⌝ }
+    requires { ⌜ ((k : ℕ) → k < width → getD (now owner) k 0 ≤ mostWidth) ⌝ }
     ensures { λ r. ⌜ Surveyed width (now (owner .entry)) (r .free) (r .placed) ⌝ }
 {
     let mut free: u64 = 0;
@@ -110,17 +109,17 @@ fn survey(width: usize, owner: &[u8; MOST]) -> Census
     let mut port = 0;
     while port < width {
         let bank = owner[port] as usize;
-        let vacant = (bank / MOST) as u64;
+        let vacant = (bank / MOST_WIDTH) as u64;
         free = with(free, port, vacant);
-        placed = with(placed, bank % MOST, 1 - vacant);
+        placed = with(placed, bank % MOST_WIDTH, 1 - vacant);
         port += 1;
     }
     Census { free, placed }
 }
 
 // Makes a matching perfect: each bank below `width` that owns no port searches one.
-pub fn complete(edges: &[u64; MOST], width: usize, owner: &mut [u8; MOST]) -> Completed
-    requires { ⌜ (width ≤ 64) × (length (now edges) ≡ 64) × (length (now owner) ≡ 64) ⌝ }
+pub fn complete(edges: &[u64; MOST_WIDTH], width: usize, owner: &mut [u8; MOST_WIDTH]) -> Completed
+    requires { ⌜ (width ≤ mostWidth) × (length (now edges) ≡ mostWidth) × (length (now owner) ≡ mostWidth) ⌝ }
     requires { ⌜ Matches (Edge (now edges)) width (now owner) ⌝ }
     ensures { λ r. ⌜ Completes (Edge (now (edges .entry))) width (now (owner .entry)) (now (owner .exit)) r ⌝ }
 {

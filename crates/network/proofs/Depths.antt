@@ -1,8 +1,9 @@
 -- The depth of a width: a width that has a depth up to 6 is that power of two, and each such power has its depth.
-use Prim.Native.Nat.{ℕ, zero, suc, _^_, _<_, _≤_}
+use Prim.Native.Nat.{ℕ, zero, suc, _^_, _≤_}
 use mathlib.Core.Path.{_≡_, refl}
 use native.Mathlib.Omega.{arith}
 use lib.Pow.{pow-mono}
+use Rattle.limits.specs.Limits.{mostWidth}
 use Rattle.laws.specs.Choice.{ifEq}
 use Rattle.laws.proofs.Choices.{ifEq-cases}
 use Rattle.network.specs.Calls.{depthOf}
@@ -28,5 +29,5 @@ width-depth (suc (suc (suc (suc (suc zero))))) l = refl
 width-depth (suc (suc (suc (suc (suc (suc zero)))))) l = refl
 width-depth (suc (suc (suc (suc (suc (suc (suc d))))))) l = absurd (omega arith)
 
-pub depth-narrow : (width : ℕ) → depthOf width ≤ 6 → width ≤ 64
+pub depth-narrow : (width : ℕ) → depthOf width ≤ 6 → width ≤ mostWidth
 depth-narrow width l = rw (depth-width width l) (pow-mono l)

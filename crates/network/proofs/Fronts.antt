@@ -1,21 +1,22 @@
 -- The front of an array of 64 as the list of a permutation and of its inverse: what `set_images` hands to `set_bits`, and what the
 -- permutation's setting is in terms of the images.
 use Prim.Native.Nat.{ℕ, _^_, _<_, _≤_}
-use mathlib.Core.Path.{_≡_, refl, sym, ap, subst, _∙_}
+use mathlib.Core.Path.{_≡_, sym, subst, _∙_}
 use mathlib.Core.List.{List}
 use native.Mathlib.Omega.{arith}
 use lib.ListN.{length, getD, take}
 use lib.Seq.{getD-take, length-take-le}
+use Rattle.limits.specs.Limits.{mostWidth}
 use Rattle.laws.specs.Permutation.{Permutes, inverse}
 use Rattle.laws.proofs.Permutations.{permutes-ext, inverse-unique}
 use Rattle.network.specs.Setting.{setting}
 use Rattle.network.specs.Steps.{Inverses, Narrowed, Inverting}
 use Rattle.network.proofs.Unique.{setting-ext}
 
-pub length-front : (width : ℕ) (r : List ℕ) → width ≤ 64 → length r ≡ 64 → length (take width r) ≡ width
+pub length-front : (width : ℕ) (r : List ℕ) → width ≤ mostWidth → length r ≡ mostWidth → length (take width r) ≡ width
 length-front width r few long = length-take-le width r (omega arith)
 
-module _ (width : ℕ) (images r : List ℕ) (few : width ≤ 64) (P : Permutes width (λ i. getD images i 0)) (N : Narrowed width images r) where
+module _ (width : ℕ) (images r : List ℕ) (few : width ≤ mostWidth) (P : Permutes width (λ i. getD images i 0)) (N : Narrowed width images r) where
   pub front-listed : (x : ℕ) → x < width → getD images x 0 ≡ getD (take width r) x 0
   front-listed x l = sym (getD-take width r x 0 l ∙ N .each x l)
 

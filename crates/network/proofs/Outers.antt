@@ -10,6 +10,7 @@ use native.Mathlib.Nat.{two-pow-succ, zero-add}
 use lib.ListN.{length, getD, set, take, length-set}
 use lib.Pow.{pow-pos}
 use lib.Seq.{getD-take, getD-set-same, length-take-le, ext-getD}
+use Rattle.limits.specs.Limits.{mostWidth, mostInner}
 use Rattle.laws.specs.Permutation.{Permutes, inverse}
 use Rattle.laws.specs.Splice.{part, splice}
 use Rattle.laws.specs.Tabulate.{tabulate}
@@ -67,7 +68,7 @@ module _ (forward back : List ℕ) (I : Inverses forward back) where
       pub arrives : (j : ℕ) → 2 * j < n → getD half (getD back (2 * j) 0) 0 ≡ h (inverse n p (2 * j))
       arrives j l = ap (λ (z : ℕ). getD half z 0) (I .inverts (2 * j) l) ∙ halves (inverse n p (2 * j)) (inverse-below n p (I .permutes) (2 * j) l)
 
-      pub wirable : {bits upper lower : List ℕ} → length bits ≡ count → n ≤ 64 → length upper ≡ 32 → length lower ≡ 32
+      pub wirable : {bits upper lower : List ℕ} → length bits ≡ count → n ≤ mostWidth → length upper ≡ mostInner → length lower ≡ mostInner
           → Wirable half back bits (count - (n / 2 - 1)) upper lower
       wirable {bits} long few above beneath =
           let last : length bits - (count - (n / 2 - 1)) ≡ n / 2 - 1 = omega (arith, S .count-all) in
@@ -125,8 +126,8 @@ module _ (forward back : List ℕ) (I : Inverses forward back) where
       }
 
       -- the call that sets its inner network
-      module _ {rf rb : List ℕ} (R : InnerPair forward c rf rb) (few : n ≤ 64) where
-        pub length-inner : (r : List ℕ) → length r ≡ 32 → length (take (n / 2) r) ≡ n / 2
+      module _ {rf rb : List ℕ} (R : InnerPair forward c rf rb) (few : n ≤ mostWidth) where
+        pub length-inner : (r : List ℕ) → length r ≡ mostInner → length (take (n / 2) r) ≡ n / 2
         length-inner r e = length-take-le (n / 2) r (omega arith)
 
         inner-forward : (j : ℕ) → j < n / 2 → getD (take (n / 2) rf) j 0 ≡ inner p h c j
@@ -227,7 +228,7 @@ module _ (forward back : List ℕ) (I : Inverses forward back) where
     abbrev Sets : List ℕ → ℕ → ℕ → List ℕ → List ℕ → Type 0
     Sets rf a b bits ys = (e : ℕ) → Sized (length (take (n / 2) rf)) (length (part a b bits)) e → ys ≡ setting e (λ i. getD (take (n / 2) rf) i 0)
 
-    module _ {rf rb rf′ rb′ : List ℕ} (R : InnerPair forward 0 rf rb) (R′ : InnerPair forward 1 rf′ rb′) (few : n ≤ 64) (bits : List ℕ) (long : length bits ≡ count) where
+    module _ {rf rb rf′ rb′ : List ℕ} (R : InnerPair forward 0 rf rb) (R′ : InnerPair forward 1 rf′ rb′) (few : n ≤ mostWidth) (bits : List ℕ) (long : length bits ≡ count) where
       pub upper-sized : Sized (length (take (n / 2) rf)) (length (part (n / 2) (n / 2 + k - n / 2) bits)) (S .e)
       upper-sized = inner-sized 0 (omega arith) R few bits (n / 2) (n / 2 + k - n / 2) long (omega arith) (omega arith)
 

@@ -1,15 +1,16 @@
 -- The loops of `halves`, over the lists that the code holds: where a walk starts, what holds before walk number t, one turn of a walk,
 -- and the end. The number that falls is the sum of the entries: a free line has 2, and a turn makes a free line 0 and its partner 1.
-use Prim.Native.Nat.{ℕ, zero, suc, _+_, _*_, _-_, _/_, _%_, _<_, _≤_}
-use mathlib.Core.Path.{_≡_, refl, sym, ap, subst, _∙_}
+use Prim.Native.Nat.{ℕ, zero, _+_, _*_, _-_, _/_, _%_, _<_, _≤_}
+use mathlib.Core.Path.{_≡_, refl, sym, ap, _∙_}
 use mathlib.Core.List.{List}
 use native.Mathlib.Omega.{arith}
 use native.Mathlib.Decide.{ℕ-discrete}
 use lib.ListN.{length, getD, set, replicate, length-set, length-replicate, getD-replicate}
 use lib.Seq.{getD-set-same, getD-set-other}
+use Rattle.limits.specs.Limits.{mostWidth}
 use Rattle.laws.specs.Choice.{ifEq}
 use Rattle.laws.specs.Sum.{sum}
-use Rattle.laws.specs.Permutation.{Permutes, inverse}
+use Rattle.laws.specs.Permutation.{inverse}
 use Rattle.laws.proofs.Choices.{ifEq-yes, ifEq-no}
 use Rattle.laws.proofs.Sums.{sum-change}
 use Rattle.laws.proofs.Permutations.{inverse-below, inverse-right}
@@ -18,25 +19,25 @@ use Rattle.network.specs.Setting.{next, chosen}
 use Rattle.network.specs.Steps.{startAt, Inverses}
 use Rattle.network.proofs.Partners.{partner-below, partner-partner, next-below, next-permutes}
 use Rattle.network.proofs.Orbits.{iterate, iterate-step, iterate-below}
-use Rattle.network.proofs.Walks.{Painted, Walk, Swept, paint, length-paint, painted-none, walk-start, walk-started, chosen-first, walk-turn, walk-closes, walk-back, swept-first, swept-upper, swept-turn}
+use Rattle.network.proofs.Walks.{Painted, Walk, Swept, paint, painted-none, walk-start, walk-started, chosen-first, walk-turn, walk-closes, walk-back, swept-first, swept-upper, swept-turn}
 
 -- the sum of the entries
 abbrev pub weight : List ℕ → ℕ
-weight h = sum 64 (λ i. getD h i 0)
+weight h = sum mostWidth (λ i. getD h i 0)
 
-weight-set : (h : List ℕ) (x v : ℕ) → length h ≡ 64 → x < 64 → weight (set h x v) + getD h x 0 ≡ weight h + v
+weight-set : (h : List ℕ) (x v : ℕ) → length h ≡ mostWidth → x < mostWidth → weight (set h x v) + getD h x 0 ≡ weight h + v
 weight-set h x v long l =
     let at : getD (set h x v) x 0 ≡ v = getD-set-same h x v 0 (omega arith) in
-    omega (arith, sum-change 64 x (λ i. getD (set h x v) i 0) (λ i. getD h i 0) l (λ i m ne. getD-set-other h x i v 0 ne), at)
+    omega (arith, sum-change mostWidth x (λ i. getD (set h x v) i 0) (λ i. getD h i 0) l (λ i m ne. getD-set-other h x i v 0 ne), at)
 
 -- a turn at a free line
-pub weight-paint : (h : List ℕ) (x y : ℕ) → y ≡ partner x → length h ≡ 64 → x < 64 → partner x < 64 → 2 ≤ getD h x 0 → weight (set (set h x 0) y 1) < weight h
+pub weight-paint : (h : List ℕ) (x y : ℕ) → y ≡ partner x → length h ≡ mostWidth → x < mostWidth → partner x < mostWidth → 2 ≤ getD h x 0 → weight (set (set h x 0) y 1) < weight h
 weight-paint h x y e long l m free =
     rw e (omega (arith, weight-set h x 0 long l, weight-set (set h x 0) (partner x) 1 (length-set h x 0 ∙ long) m))
 
 -- before walk number t
 pub record Before (n : ℕ) (p : ℕ → ℕ) (t : ℕ) (h : List ℕ) : Type 0 where
-  pub long : length h ≡ 64
+  pub long : length h ≡ mostWidth
   pub painted : Painted n p h
   pub fresh : t ≡ 0 → (x : ℕ) → x < n → 2 ≤ getD h x 0
   pub swept : (j : ℕ) → t ≡ j + 1 → Swept n p j h
@@ -45,23 +46,23 @@ pub record Before (n : ℕ) (p : ℕ → ℕ) (t : ℕ) (h : List ℕ) : Type 0 
 pub record Walking (n : ℕ) (p : ℕ → ℕ) (before : List ℕ) (a x : ℕ) (h : List ℕ) : Type 0 where
   pub turns : ℕ
   pub here : x ≡ iterate (next n p) turns a
-  pub long : length h ≡ 64
+  pub long : length h ≡ mostWidth
   pub walk : Walk n p before a turns h
   pub free : 2 ≤ getD h x 0
 
-module _ (forward back : List ℕ) (I : Inverses forward back) (even : length forward % 2 ≡ 0) (few : length forward ≤ 64) (some : 0 < length forward) where
+module _ (forward back : List ℕ) (I : Inverses forward back) (even : length forward % 2 ≡ 0) (few : length forward ≤ mostWidth) (some : 0 < length forward) where
   abbrev pub n : ℕ
   n = length forward
 
   abbrev pub p : ℕ → ℕ
   p i = getD forward i 0
 
-  pub before-none : Before n p 0 (replicate 64 2)
+  pub before-none : Before n p 0 (replicate mostWidth 2)
   before-none =
-      let two : (x : ℕ) → x < n → 2 ≤ getD {A = ℕ} (replicate 64 2) x 0 = λ x l. rw (getD-replicate {A = ℕ} 64 x 2 0 (omega arith)) (omega arith) in
+      let two : (x : ℕ) → x < n → 2 ≤ getD {A = ℕ} (replicate mostWidth 2) x 0 = λ x l. rw (getD-replicate {A = ℕ} mostWidth x 2 0 (omega arith)) (omega arith) in
       record {
-        long = length-replicate {A = ℕ} 64 2;
-        painted = painted-none n p (replicate 64 2) (rw (length-replicate {A = ℕ} 64 2) few) two;
+        long = length-replicate {A = ℕ} mostWidth 2;
+        painted = painted-none n p (replicate mostWidth 2) (rw (length-replicate {A = ℕ} mostWidth 2) few) two;
         fresh = λ e. two;
         swept = λ j e. absurd (omega arith);
       }
@@ -105,7 +106,7 @@ module _ (forward back : List ℕ) (I : Inverses forward back) (even : length fo
 
   -- once the start is painted, walk number t is done
   pub before-more : (t : ℕ) (h h′ : List ℕ) → t ≤ n / 2 → Before n p t h
-      → Painted n p h′ → length h′ ≡ 64
+      → Painted n p h′ → length h′ ≡ mostWidth
       → ((x : ℕ) → x < n → getD h x 0 < 2 → getD h′ x 0 < 2) → getD h′ (startAt back t) 0 < 2
       → Before n p (t + 1) h′
   before-more t h h′ l B S long kept done = record {
@@ -155,7 +156,7 @@ module _ (forward back : List ℕ) (I : Inverses forward back) (even : length fo
         rw (W .here) (iterate-below n (next n p) (next-permutes n p (I .permutes) even)
         (W .turns) (startAt back t) (start-below t l))
 
-    pub partner-few : partner x < 64
+    pub partner-few : partner x < mostWidth
     partner-few = omega (arith, partner-below n x even walking-below)
 
     module _ (y u v x′ : ℕ) (ey : y ≡ partner x) (eu : u ≡ getD forward y 0) (ev : v ≡ partner u) (ex : x′ ≡ getD back v 0) where
@@ -178,7 +179,7 @@ module _ (forward back : List ℕ) (I : Inverses forward back) (even : length fo
           rw (ey, W .here)
           (walk-turn n p (I .permutes) even h₀ h (startAt back t) (W .turns) (start-below t l) (start-upper t h₀ l B start) (W .walk))
 
-      length-turned : length (set (set h x 0) y 1) ≡ 64
+      length-turned : length (set (set h x 0) y 1) ≡ mostWidth
       length-turned = length-set (set h x 0) y 1 ∙ length-set h x 0 ∙ W .long
 
       pub walking-on : 2 ≤ getD (set (set h x 0) y 1) x′ 0 → Walking n p h₀ (startAt back t) x′ (set (set h x 0) y 1)

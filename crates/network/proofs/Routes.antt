@@ -10,6 +10,7 @@ use native.Mathlib.Decide.{ℕ-discrete}
 use lib.Pow.{pow-pos}
 use lib.ListN.{length, getD, set, take, drop, length-set, List·getD-append, List·getD-eq-default}
 use lib.Seq.{getD-set-same, getD-set-other, getD-take, length-take-le, length-front}
+use Rattle.limits.specs.Limits.{mostWidth, mostInner}
 use Rattle.laws.specs.Choice.{ifLt, ifEq}
 use Rattle.laws.specs.Splice.{part}
 use Rattle.laws.proofs.Choices.{ifEq-yes, ifEq-no}
@@ -22,7 +23,7 @@ use Rattle.network.proofs.Leaves.{leaves-below, leaves-part, outputBit-
 
 -- taking in: no switch, and one more
 module _ {bits lines : List ℕ} {h : ℕ} where
-  pub taken-none : {inner : List ℕ} → length inner ≡ 32 → Taken 0 bits lines h inner
+  pub taken-none : {inner : List ℕ} → length inner ≡ mostInner → Taken 0 bits lines h inner
   taken-none long = record { long = long; each = λ j l. absurd (omega arith) }
 
   pub taken-more : {n i : ℕ} {inner : List ℕ} → Taken n bits lines h inner → n < 32 → i ≡ 2 * n + (h + getD bits n 0) % 2
@@ -137,7 +138,7 @@ pub record Split (bits lines : List ℕ) (d m n : ℕ) : Type 0 where
 abbrev pub RouteSplit : List ℕ → List ℕ → ℕ → Type 0
 RouteSplit bits lines d = Split bits lines d (length lines / 2) ((length bits - (length lines - 1)) / 2)
 
-pub split : (bits lines : List ℕ) (d : ℕ) → Sized (length lines) (length bits) d → length lines ≤ 64 → (length lines ≡ 1 → ⊥) → RouteSplit bits lines d
+pub split : (bits lines : List ℕ) (d : ℕ) → Sized (length lines) (length bits) d → length lines ≤ mostWidth → (length lines ≡ 1 → ⊥) → RouteSplit bits lines d
 unfolding bitCount
 split bits lines zero s few f = absurd (f (s .0))
 split bits lines (suc e) s few f =
@@ -176,7 +177,7 @@ module _ {d m n : ℕ} {bits before : List ℕ} (S : Split bits before d m n) wh
 
   -- what it was lent comes back at the front of all that was taken in
   pub back-long : {h : ℕ} {inner : List ℕ} (moved : List ℕ) → Taken m bits before h inner → length moved ≡ length (take m inner)
-      → length (moved ++ drop m inner) ≡ 32
+      → length (moved ++ drop m inner) ≡ mostInner
   back-long {inner = inner} moved taken same = length-front inner moved m same ∙ taken .long
 
   -- a line that takes half h: in by `taken`, through the inner network, whose k bits start at a, and out by `joined`

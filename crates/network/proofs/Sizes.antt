@@ -8,7 +8,6 @@ use native.Mathlib.Nat.{two-pow-succ, zero-mul, one-mul}
 use lib.Pow.{pow-pos}
 use lib.ListN.{length, getD, take, drop}
 use Rattle.laws.specs.Splice.{part}
-use Rattle.laws.proofs.Splices.{length-part}
 use Rattle.network.specs.Network.{bitCount, half, exit, outputBit, leaves}
 use Rattle.network.specs.Calls.{Sized}
 use Rattle.network.specs.Steps.{innerCount}

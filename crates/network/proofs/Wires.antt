@@ -5,6 +5,7 @@ use mathlib.Core.List.{List}
 use native.Mathlib.Omega.{arith}
 use lib.ListN.{length, getD, set, length-set}
 use lib.Seq.{getD-set-other}
+use Rattle.limits.specs.Limits.{mostWidth, mostInner}
 use Rattle.laws.proofs.Tabulates.{stored-turn}
 use Rattle.laws.specs.Permutation.{Permutes}
 use Rattle.network.specs.Steps.{Placed, Picked, Divided, Inverting}
@@ -28,7 +29,7 @@ placed-more {bit} {from} {n} {b} {before} {after} P l e = record {
 
 -- one level's switches: none, one more, and the last output switch, which has no bit
 module _ {bit : ℕ → ℕ} {from : ℕ} {images before : List ℕ} where
-  pub divided-none : {upper lower : List ℕ} → length upper ≡ 32 → length lower ≡ 32 → Divided bit from 0 0 images before before upper lower
+  pub divided-none : {upper lower : List ℕ} → length upper ≡ mostInner → length lower ≡ mostInner → Divided bit from 0 0 images before before upper lower
   divided-none above beneath = record {
     bits = record { long = refl; placed = λ j l. absurd (omega arith); kept = λ i l. refl };
     above = record { long = above; each = λ j l. absurd (omega arith) };
@@ -50,7 +51,7 @@ module _ {bit : ℕ → ℕ} {from : ℕ} {images before : List ℕ} where
   divided-last D l em ei eg = rw em (record { bits = D .bits; above = picked-more (D .above) l ei; beneath = picked-more (D .beneath) l eg })
 
 -- one more entry of an inverse
-pub inverting-more : {forward back : List ℕ} {w i v : ℕ} → Permutes w (λ x. getD forward x 0) → w ≤ 64 → i < w → v ≡ getD forward i 0 → Inverting forward i back
+pub inverting-more : {forward back : List ℕ} {w i v : ℕ} → Permutes w (λ x. getD forward x 0) → w ≤ mostWidth → i < w → v ≡ getD forward i 0 → Inverting forward i back
     → Inverting forward (i + 1) (set back v i)
 inverting-more {forward} {back} {w} {i} {v} P few l e I = rw e (record {
   long = length-set back (getD forward i 0) i ∙ I .long;

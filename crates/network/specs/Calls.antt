@@ -1,11 +1,11 @@
 -- What the calls answer: setting a network, following a line; and what a pass of all lines leaves.
-use Prim.Native.Nat.{ℕ, zero, suc, _+_, _^_, _<_, _≤_}
+use Prim.Native.Nat.{ℕ, zero, suc, _+_, _^_, _<_}
 use mathlib.Core.Path.{_≡_}
 use mathlib.Core.List.{List}
 use lib.ListN.{length, getD}
+use Rattle.limits.specs.Limits.{mostWidth}
 use Rattle.laws.specs.Choice.{ifLt, ifLe, ifEq}
 use Rattle.laws.specs.Tabulate.{overwrite}
-use Rattle.refusal.specs.declared.Refusal.{Refusal}
 use Rattle.refusal.specs.declared.Refusal.the-variants.{Width, BufferShort, SwitchValue, OutOfRange}
 use Rattle.images.specs.Images.{checkOf}
 use Rattle.images.specs.declared.Checked.{Checked}

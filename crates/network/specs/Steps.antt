@@ -3,6 +3,7 @@ use Prim.Native.Nat.{ℕ, _+_, _*_, _-_, _/_, _%_, _<_, _≤_}
 use mathlib.Core.Path.{_≡_}
 use mathlib.Core.List.{List}
 use lib.ListN.{length, getD}
+use Rattle.limits.specs.Limits.{mostWidth, mostInner}
 use Rattle.laws.specs.Choice.{ifEq}
 use Rattle.laws.specs.Permutation.{Permutes, inverse}
 use Rattle.network.specs.Network.{partner, exit}
@@ -27,7 +28,7 @@ pub record Placed (bit : ℕ → ℕ) (from n : ℕ) (before after : List ℕ) :
 
 -- for each of n switches, where switch j has `bit j`, the inner line to which the image of the line of half h belongs
 pub record Picked (bit : ℕ → ℕ) (n : ℕ) (images : List ℕ) (h : ℕ) (inner : List ℕ) : Type 0 where
-  pub long : length inner ≡ 32
+  pub long : length inner ≡ mostInner
   pub each : (j : ℕ) → j < n → getD inner j 0 ≡ getD images (2 * j + (h + bit j) % 2) 0 / 2
 
 -- n bits are placed, and m inner lines of each half picked, as `images` says
@@ -47,17 +48,17 @@ OutputsSet half back from before after upper lower =
 
 -- room for the bits of the output switches of as many lines as back lists, and for what the halves get; the last switch stands straight
 pub record Wirable (half back bits : List ℕ) (from : ℕ) (upper lower : List ℕ) : Type 0 where
-  pub few : length back ≤ 64
-  pub lines : (y : ℕ) → y < length back → getD back y 0 < 64
+  pub few : length back ≤ mostWidth
+  pub lines : (y : ℕ) → y < length back → getD back y 0 < mostWidth
   pub behind : from ≤ length bits
   pub room : length back / 2 ≡ length bits - from + 1
   pub straight : getD half (getD back (2 * (length bits - from)) 0) 0 ≡ 0
-  pub above : length upper ≡ 32
-  pub beneath : length lower ≡ 32
+  pub above : length upper ≡ mostInner
+  pub beneath : length lower ≡ mostInner
 
 -- what half h takes in at the first n input switches: what stands on the line that goes to that half
 pub record Taken (n : ℕ) (bits lines : List ℕ) (h : ℕ) (inner : List ℕ) : Type 0 where
-  pub long : length inner ≡ 32
+  pub long : length inner ≡ mostInner
   pub each : (j : ℕ) → j < n → getD inner j 0 ≡ getD lines (2 * j + (h + getD bits j 0) % 2) 0
 
 -- what the inner lines gave out stands on the lines of the first n output switches, whose bits start at `from`
@@ -67,11 +68,11 @@ pub record Joined (n : ℕ) (bits : List ℕ) (from : ℕ) (upper lower lines : 
 
 -- room for what the inner lines of each half give out: the bits from `from` on are those of all output switches but the last
 pub record Givable (bits : List ℕ) (from : ℕ) (upper lower lines : List ℕ) : Type 0 where
-  pub few : length lines ≤ 64
+  pub few : length lines ≤ mostWidth
   pub pairs : length lines ≡ 2 * (length bits - from) + 2
   pub behind : from ≤ length bits
-  pub above : length upper ≡ 32
-  pub beneath : length lower ≡ 32
+  pub above : length upper ≡ mostInner
+  pub beneath : length lower ≡ mostInner
 
 -- a switch with this bit carried what stood on its two lines
 pub record Switched (bit : ℕ) (before after : List ℕ) : Type 0 where
@@ -92,18 +93,18 @@ pub record Outer (forward bits : List ℕ) : Type 0 where
 
 -- arrays of 32 that start with the permutation of the inner lines that half c has to perform, and with its inverse
 pub record InnerPair (forward : List ℕ) (c : ℕ) (images back : List ℕ) : Type 0 where
-  pub long : length images ≡ 32
-  pub long-back : length back ≡ 32
+  pub long : length images ≡ mostInner
+  pub long-back : length back ≡ mostInner
   pub performs : (j : ℕ) → j < length forward / 2 → getD images j 0 ≡ inner (λ i. getD forward i 0) (chosen (length forward) (λ i. getD forward i 0)) c j
   pub inverts : (j : ℕ) → j < length forward / 2
       → getD back j 0 ≡ inverse (length forward / 2) (inner (λ i. getD forward i 0) (chosen (length forward) (λ i. getD forward i 0)) c) j
 
 -- the first images, in an array of 64
 pub record Narrowed (width : ℕ) (images r : List ℕ) : Type 0 where
-  pub long : length r ≡ 64
+  pub long : length r ≡ mostWidth
   pub each : (x : ℕ) → x < width → getD r x 0 ≡ getD images x 0
 
 -- an array of 64 that has, at the image of each of the first i lines, that line
 pub record Inverting (forward : List ℕ) (i : ℕ) (back : List ℕ) : Type 0 where
-  pub long : length back ≡ 64
+  pub long : length back ≡ mostWidth
   pub filled : (x : ℕ) → x < i → getD back (getD forward x 0) 0 ≡ x

@@ -1,6 +1,6 @@
 // Following one line through a network.
 ghost use mathlib.Core.Path.{_≡_};
-ghost use Prim.Native.Nat.{ℕ, _+_, _*_, _^_, _<_, _≤_};
+ghost use Prim.Native.Nat.{ℕ, _+_, _*_, _<_, _≤_};
 ghost use lib.ListN.{length, getD};
 ghost use Rattle.network.specs.Network.{leaves};
 ghost use Rattle.network.specs.Calls.{Sized, firstBad, followOf};

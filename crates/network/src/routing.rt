@@ -2,14 +2,16 @@
 ghost use mathlib.Core.Path.{_≡_};
 ghost use Prim.Native.Nat.{ℕ, _/_, _%_, _<_, _≤_};
 ghost use lib.ListN.{length, getD};
+ghost use Rattle.limits.specs.Limits.{mostWidth, mostInner};
 ghost use Rattle.laws.specs.Choice.{ifEq};
 ghost use Rattle.network.specs.Calls.{Sized, Routed};
 ghost use Rattle.network.specs.Steps.{Taken, Joined, Givable, Switched};
 use crate::widths::wide;
+use limits::MOST_INNER;
 
 // What the halves take in: at each input switch one line goes to the upper half and the other to the lower.
-fn take_in(bits: &[u8], lines: &[u8], upper: &mut [u8; 32], lower: &mut [u8; 32])
-    requires { ⌜ (length (now lines) ≤ 64) × (length (now lines) / 2 ≤ length (now bits)) × (length (now upper) ≡ 32) × (length (now lower) ≡ 32) ⌝ }
+fn take_in(bits: &[u8], lines: &[u8], upper: &mut [u8; MOST_INNER], lower: &mut [u8; MOST_INNER])
+    requires { ⌜ (length (now lines) ≤ mostWidth) × (length (now lines) / 2 ≤ length (now bits)) × (length (now upper) ≡ mostInner) × (length (now lower) ≡ mostInner) ⌝ }
     ensures { λ _. ⌜ Taken (length (now (lines .entry)) / 2) (now (bits .entry)) (now (lines .entry)) 0 (now (upper .exit)) ⌝ }
     ensures { λ _. ⌜ Taken (length (now (lines .entry)) / 2) (now (bits .entry)) (now (lines .entry)) 1 (now (lower .exit)) ⌝ }
 {
@@ -34,7 +36,13 @@ fn leaving(bit: u8, straight: u8, crossed: u8) -> u8
 }
 
 // What leaves by the output switches, whose bits start at `from`. The last one has no bit and stands straight.
-fn give_out(bits: &[u8], from: usize, upper: &[u8; 32], lower: &[u8; 32], lines: &mut [u8])
+fn give_out(
+    bits: &[u8],
+    from: usize,
+    upper: &[u8; MOST_INNER],
+    lower: &[u8; MOST_INNER],
+    lines: &mut [u8],
+)
     requires { ⌜ Givable (now bits) from (now upper) (now lower) (now lines) ⌝ }
     ensures { λ _. ⌜ Joined (length (now (lines .entry)) / 2) (now (bits .entry)) from (now (upper .entry)) (now (lower .entry)) (now (lines .exit)) ⌝ }
 {
@@ -68,7 +76,7 @@ fn pass_switch(bits: &[u8], lines: &mut [u8])
 // Only our own crates call it, with the bits of a network as wide as there are lines.
 pub fn route(bits: &[u8], lines: &mut [u8])
     requires { ⌜ ((d : ℕ) × Sized (length (now lines)) (length (now bits)) d) ⌝ }
-    requires { ⌜ length (now lines) ≤ 64 ⌝ }
+    requires { ⌜ length (now lines) ≤ mostWidth ⌝ }
     ensures { λ _. ⌜ ((d : ℕ) → Sized (length (now (lines .entry))) (length (now (bits .entry))) d → Routed d (now (bits .entry)) (now (lines .entry)) (now (lines .exit))) ⌝ }
 {
     let width = lines.len();
@@ -83,8 +91,8 @@ pub fn route(bits: &[u8], lines: &mut [u8])
     let inner = (bits.len() - (width - 1)) / 2;
     let middle = m + inner;
     let outputs = m + (inner + inner);
-    let mut upper = [0u8; 32];
-    let mut lower = [0u8; 32];
+    let mut upper = [0u8; MOST_INNER];
+    let mut lower = [0u8; MOST_INNER];
     take_in(bits, lines, &mut upper, &mut lower);
     route(&bits[m..middle], &mut upper[..m]);
     route(&bits[middle..outputs], &mut lower[..m]);

@@ -1,7 +1,8 @@
 // Setting a network for a permutation of its lines, by the rule.
 ghost use mathlib.Core.Path.{_≡_};
-ghost use Prim.Native.Nat.{ℕ, _+_, _*_, _-_, _/_, _%_, _^_, _<_, _≤_};
+ghost use Prim.Native.Nat.{ℕ, _+_, _*_, _-_, _/_, _%_, _<_, _≤_};
 ghost use lib.ListN.{length, getD};
+ghost use Rattle.limits.specs.Limits.{mostWidth, mostInner};
 ghost use Rattle.laws.specs.Permutation.{Permutes};
 ghost use Rattle.network.specs.Setting.{setting, chosen};
 ghost use Rattle.network.specs.Calls.{Sized, outcome, setOf};
@@ -12,6 +13,8 @@ use crate::widths::partner_of;
 use crate::widths::value_at;
 use crate::widths::wide;
 use images::Checked;
+use limits::MOST_INNER;
+use limits::MOST_WIDTH;
 use refusal::Refusal;
 
 pub enum Setting {
@@ -32,13 +35,13 @@ fn start_of(back: &[u8], t: usize) -> usize
 }
 
 // The half of each line by the rule; 2 stands for none yet. `forward` is the permutation and `back` its inverse.
-fn halves(forward: &[u8], back: &[u8]) -> [u8; 64]
+fn halves(forward: &[u8], back: &[u8]) -> [u8; MOST_WIDTH]
     requires { ⌜ Inverses (now forward) (now back) ⌝ }
-    requires { ⌜ (length (now forward) % 2 ≡ 0) × (length (now forward) ≤ 64) × (0 < length (now forward)) ⌝ }
+    requires { ⌜ (length (now forward) % 2 ≡ 0) × (length (now forward) ≤ mostWidth) × (0 < length (now forward)) ⌝ }
     ensures { λ r. ⌜ ((x : ℕ) → x < length (now (forward .entry)) → getD r x 0 ≡ chosen (length (now (forward .entry))) (λ i. getD (now (forward .entry)) i 0) x) ⌝ }
 {
     let n = forward.len();
-    let mut half = [2u8; 64];
+    let mut half = [2u8; MOST_WIDTH];
     let mut t = 0;
     'starts: while t <= n / 2 {
         let start = start_of(back, t);
@@ -62,13 +65,13 @@ fn halves(forward: &[u8], back: &[u8]) -> [u8; 64]
 
 // The input switches: a switch is crossed where its even line takes the lower half. The halves get what they have to perform.
 fn set_inputs(
-    half: &[u8; 64],
+    half: &[u8; MOST_WIDTH],
     forward: &[u8],
     bits: &mut [u8],
-    upper: &mut [u8; 32],
-    lower: &mut [u8; 32],
+    upper: &mut [u8; MOST_INNER],
+    lower: &mut [u8; MOST_INNER],
 )
-    requires { ⌜ (length (now forward) ≤ 64) × (length (now forward) / 2 ≤ length (now bits)) × (length (now upper) ≡ 32) × (length (now lower) ≡ 32) ⌝ }
+    requires { ⌜ (length (now forward) ≤ mostWidth) × (length (now forward) / 2 ≤ length (now bits)) × (length (now upper) ≡ mostInner) × (length (now lower) ≡ mostInner) ⌝ }
     ensures { λ _. ⌜ InputsSet (now (half .entry)) (now (forward .entry)) (now (bits .entry)) (now (bits .exit)) (now (upper .exit)) (now (lower .exit)) ⌝ }
 {
     let m = forward.len() / 2;
@@ -86,12 +89,12 @@ fn set_inputs(
 // The output switches, whose bits start at `from`: a switch is crossed where its even line comes from the lower half. The last one has
 // no bit and stands straight. The halves get the inverse of what they have to perform.
 fn set_outputs(
-    half: &[u8; 64],
+    half: &[u8; MOST_WIDTH],
     back: &[u8],
     bits: &mut [u8],
     from: usize,
-    upper: &mut [u8; 32],
-    lower: &mut [u8; 32],
+    upper: &mut [u8; MOST_INNER],
+    lower: &mut [u8; MOST_INNER],
 )
     requires { ⌜ Wirable (now half) (now back) (now bits) from (now upper) (now lower) ⌝ }
     ensures { λ _. ⌜ OutputsSet (now (half .entry)) (now (back .entry)) from (now (bits .entry)) (now (bits .exit)) (now (upper .exit)) (now (lower .exit)) ⌝ }
@@ -116,15 +119,15 @@ fn set_outer(
     forward: &[u8],
     back: &[u8],
     bits: &mut [u8],
-    upper: &mut [u8; 32],
-    lower: &mut [u8; 32],
-    upperback: &mut [u8; 32],
-    lowerback: &mut [u8; 32],
+    upper: &mut [u8; MOST_INNER],
+    lower: &mut [u8; MOST_INNER],
+    upperback: &mut [u8; MOST_INNER],
+    lowerback: &mut [u8; MOST_INNER],
 )
     requires { ⌜ ((d : ℕ) × Sized (length (now forward)) (length (now bits)) d) ⌝ }
-    requires { ⌜ (1 < length (now forward)) × (length (now forward) ≤ 64) ⌝ }
+    requires { ⌜ (1 < length (now forward)) × (length (now forward) ≤ mostWidth) ⌝ }
     requires { ⌜ Inverses (now forward) (now back) ⌝ }
-    requires { ⌜ (length (now upper) ≡ 32) × (length (now lower) ≡ 32) × (length (now upperback) ≡ 32) × (length (now lowerback) ≡ 32) ⌝ }
+    requires { ⌜ (length (now upper) ≡ mostInner) × (length (now lower) ≡ mostInner) × (length (now upperback) ≡ mostInner) × (length (now lowerback) ≡ mostInner) ⌝ }
     ensures { λ _. ⌜ Outer (now (forward .entry)) (now (bits .exit)) ⌝ }
     ensures { λ _. ⌜ InnerPair (now (forward .entry)) 0 (now (upper .exit)) (now (upperback .exit)) ⌝ }
     ensures { λ _. ⌜ InnerPair (now (forward .entry)) 1 (now (lower .exit)) (now (lowerback .exit)) ⌝ }
@@ -139,7 +142,7 @@ fn set_outer(
 // Only our own crates call it, with as many bits as the network has.
 pub fn set_bits(forward: &[u8], back: &[u8], bits: &mut [u8])
     requires { ⌜ ((d : ℕ) × Sized (length (now forward)) (length (now bits)) d) ⌝ }
-    requires { ⌜ length (now forward) ≤ 64 ⌝ }
+    requires { ⌜ length (now forward) ≤ mostWidth ⌝ }
     requires { ⌜ Inverses (now forward) (now back) ⌝ }
     ensures { λ _. ⌜ ((d : ℕ) → Sized (length (now (forward .entry))) (length (now (bits .entry))) d → now (bits .exit) ≡ setting d (λ i. getD (now (forward .entry)) i 0)) ⌝ }
 {
@@ -156,10 +159,10 @@ pub fn set_bits(forward: &[u8], back: &[u8], bits: &mut [u8])
     let inner = (bits.len() - (width - 1)) / 2;
     let middle = m + inner;
     let outputs = m + (inner + inner);
-    let mut upper = [0u8; 32];
-    let mut lower = [0u8; 32];
-    let mut upper_back = [0u8; 32];
-    let mut lower_back = [0u8; 32];
+    let mut upper = [0u8; MOST_INNER];
+    let mut lower = [0u8; MOST_INNER];
+    let mut upper_back = [0u8; MOST_INNER];
+    let mut lower_back = [0u8; MOST_INNER];
     set_outer(
         forward,
         back,
@@ -174,12 +177,12 @@ pub fn set_bits(forward: &[u8], back: &[u8], bits: &mut [u8])
 }
 
 // The images as bytes.
-fn narrow(images: &[u16], width: usize) -> [u8; 64]
-    requires { ⌜ (width ≤ 64) × (width ≤ length (now images)) ⌝ }
+fn narrow(images: &[u16], width: usize) -> [u8; MOST_WIDTH]
+    requires { ⌜ (width ≤ mostWidth) × (width ≤ length (now images)) ⌝ }
     requires { ⌜ ((x : ℕ) → x < width → getD (now images) x 0 < width) ⌝ }
     ensures { λ r. ⌜ Narrowed width (now (images .entry)) r ⌝ }
 {
-    let mut forward = [0u8; 64];
+    let mut forward = [0u8; MOST_WIDTH];
     let mut i = 0;
     while i < width {
         forward[i] = images[i] as u8;
@@ -189,12 +192,12 @@ fn narrow(images: &[u16], width: usize) -> [u8; 64]
 }
 
 // The inverse of a permutation of `width` lines.
-fn invert(forward: &[u8], width: usize) -> [u8; 64]
-    requires { ⌜ (width ≤ 64) × (width ≡ length (now forward)) ⌝ }
+fn invert(forward: &[u8], width: usize) -> [u8; MOST_WIDTH]
+    requires { ⌜ (width ≤ mostWidth) × (width ≡ length (now forward)) ⌝ }
     requires { ⌜ Permutes width (λ i. getD (now forward) i 0) ⌝ }
     ensures { λ r. ⌜ Inverting (now (forward .entry)) width r ⌝ }
 {
-    let mut back = [0u8; 64];
+    let mut back = [0u8; MOST_WIDTH];
     let mut i = 0;
     while i < width {
         back[value_at(forward, i)] = i as u8;
@@ -206,7 +209,7 @@ fn invert(forward: &[u8], width: usize) -> [u8; 64]
 // The bits of a network of `width` lines for the permutation that the first images give.
 fn set_images(width: usize, images: &[u16], bits: &mut [u8])
     requires { ⌜ ((d : ℕ) × Sized width (length (now bits)) d) ⌝ }
-    requires { ⌜ (width ≤ 64) × (width ≤ length (now images)) ⌝ }
+    requires { ⌜ (width ≤ mostWidth) × (width ≤ length (now images)) ⌝ }
     requires { ⌜ Permutes width (λ i. getD (now images) i 0) ⌝ }
     ensures { λ _. ⌜ ((d : ℕ) → Sized width (length (now (bits .entry))) d → now (bits .exit) ≡ setting d (λ i. getD (now (images .entry)) i 0)) ⌝ }
 {

@@ -5,6 +5,7 @@ use mathlib.Core.List.{List, _++_}
 use native.Mathlib.Omega.{arith}
 use lib.ListN.{length, getD, take, drop, length-append, length-drop}
 use lib.Seq.{length-take-le, getD-take, take-at}
+use Rattle.limits.specs.Limits.{mostWidth, mostSwitches}
 use Rattle.laws.specs.Permutation.{Permutes}
 use Rattle.laws.proofs.Permutations.{permutes-ext}
 use Rattle.network.specs.Setting.{setting}
@@ -19,12 +20,12 @@ use Rattle.packing.specs.Packing.{putFields, putLine, Wired, Ready}
 
 -- ---- the bits of a network, in the front of an array of 321
 
-pub room-long : (room : List ℕ) (count : ℕ) → length room ≡ 321 → count ≤ 321 → length (take count room) ≡ count
+pub room-long : (room : List ℕ) (count : ℕ) → length room ≡ mostSwitches → count ≤ mostSwitches → length (take count room) ≡ count
 room-long room count e l = length-take-le count room (omega arith)
 
-pub switches-set : (forward after room : List ℕ) (count : ℕ) → length room ≡ 321 → count ≤ 321 → (d : ℕ) × Sized (length forward) count d
+pub switches-set : (forward after room : List ℕ) (count : ℕ) → length room ≡ mostSwitches → count ≤ mostSwitches → (d : ℕ) × Sized (length forward) count d
     → ((d : ℕ) → Sized (length forward) (length (take count room)) d → after ≡ setting d (λ i. getD forward i 0))
-    → (length (after ++ drop count room) ≡ 321)
+    → (length (after ++ drop count room) ≡ mostSwitches)
     × ((d : ℕ) → Sized (length forward) count d → take count (after ++ drop count room) ≡ setting d (λ i. getD forward i 0))
 switches-set forward after room count e few S h = (
   simp (length-append, length-drop) (omega (arith, long)),
@@ -39,11 +40,11 @@ switches-set forward after room count e few S h = (
 -- the parts of a line keep the limits of what puts them, and its addresses fit their fields
 pub record Placed (n w : ℕ) (s : Shape) : Type 0 where
   pub lines : s .lines ≡ 2 ^ depth w
-  pub few : s .lines ≤ 64
+  pub few : s .lines ≤ mostWidth
   pub switches : s .switches ≡ switchBits w
-  pub switches-few : s .switches ≤ 321
+  pub switches-few : s .switches ≤ mostSwitches
   pub width : s .width ≡ w
-  pub narrow : s .width ≤ 64
+  pub narrow : s .width ≤ mostWidth
   pub address-few : s .address ≤ 16
   pub reached : cycles n w ≤ 2 ^ s .address
   pub total : s .stride ≡ s .width * s .address + s .switches + s .width * s .address

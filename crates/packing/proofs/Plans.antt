@@ -6,18 +6,19 @@ use native.Mathlib.Nat.{mod-lt}
 use native.Mathlib.Omega.{arith}
 use lib.ListN.{length, getD, set, replicate, length-set, length-replicate}
 use lib.Seq.{getD-set-other}
+use Rattle.limits.specs.Limits.{mostWidth}
 use Rattle.laws.specs.Permutation.{Injective}
 use Rattle.laws.proofs.Tabulates.{stored-turn}
 use Rattle.packing.specs.Packing.{Blank, Planned}
 
 -- arrays of zeros, and two in which each line goes straight through
-pub blank-numbered : (w : ℕ) {forward back : List ℕ} → (length forward ≡ 64) × ((x : ℕ) → x < 64 → getD forward x 0 ≡ x)
-    → (length back ≡ 64) × ((x : ℕ) → x < 64 → getD back x 0 ≡ x) → Blank w (replicate 64 0) forward back (replicate 64 0)
+pub blank-numbered : (w : ℕ) {forward back : List ℕ} → (length forward ≡ mostWidth) × ((x : ℕ) → x < mostWidth → getD forward x 0 ≡ x)
+    → (length back ≡ mostWidth) × ((x : ℕ) → x < mostWidth → getD back x 0 ≡ x) → Blank w (replicate mostWidth 0) forward back (replicate mostWidth 0)
 blank-numbered w F B = record {
-  reads-long = length-replicate {A = ℕ} 64 0;
+  reads-long = length-replicate {A = ℕ} mostWidth 0;
   forward-long = F .0;
   back-long = B .0;
-  writes-long = length-replicate {A = ℕ} 64 0;
+  writes-long = length-replicate {A = ℕ} mostWidth 0;
   ahead-spare = λ x m l. F .1 x l;
   from-spare = λ x m l. B .1 x l;
 }
@@ -34,7 +35,7 @@ planned-none p words B = record {
 }
 
 -- one more port
-pub planned-more : {w m : ℕ} {p : ℕ → ℕ} {words reads forward back writes : List ℕ} → Planned w p words m reads forward back writes → 0 < w → w ≤ 64 → m < w
+pub planned-more : {w m : ℕ} {p : ℕ → ℕ} {words reads forward back writes : List ℕ} → Planned w p words m reads forward back writes → 0 < w → w ≤ mostWidth → m < w
     → Injective w (λ k. getD words k 0 % w)
     → Planned w p words (m + 1) (set reads (getD words m 0 % w) (getD words m 0 / w)) (set forward (getD words m 0 % w) m)
     (set back m (getD words m 0 % w)) (set writes m (p (getD words m 0) / w))

@@ -6,17 +6,17 @@ use mathlib.Core.List.{List}
 use native.Mathlib.Omega.{arith}
 use native.Mathlib.Nat.{zero-add, mod-eq-of-lt}
 use lib.ListN.{length, getD}
-use Rattle.laws.specs.Permutation.{Injective, Permutes}
+use Rattle.laws.specs.Permutation.{Permutes}
 use Rattle.bits.specs.Bits.{Bytes, digit, putField}
 use Rattle.bits.proofs.Digits.{digit-zero}
 use Rattle.network.specs.Carried.{carried}
 use Rattle.network.specs.Setting.{setting}
 use Rattle.network.proofs.Unique.{setting-ext}
 use Rattle.network.proofs.Performs.{setting-bit}
-use Rattle.tables.specs.Terms.{Dims, cycles, addressBits, depth, switchBits, addressRow, lineBits, fileLength}
+use Rattle.tables.specs.Terms.{cycles, addressBits, depth, switchBits, addressRow, lineBits, fileLength}
 use Rattle.tables.specs.Format.{lineAt}
 use Rattle.tables.specs.Generated.{portOf, writeOf, setBits}
-use Rattle.tables.proofs.Dims.{lineAt-zero, lineAt-suc, lineAt-order, fileLength-reaches, fileLength-header}
+use Rattle.tables.proofs.Dims.{lineAt-zero, lineAt-suc, lineAt-order, fileLength-reaches}
 use Rattle.tables.proofs.SetBits.{setBits-words, setBits-width, setBits-zeros, setBits-past, setBits-read, setBits-switch, setBits-write}
 use Rattle.tables.proofs.Written.{Written, written-none, written-field, written-zeros}
 use Rattle.packing.specs.Packing.{putFields, putHeader, putLine, putFilling}

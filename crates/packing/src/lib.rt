@@ -2,6 +2,7 @@
 ghost use mathlib.Core.Path.{_≡_};
 ghost use Prim.Native.Nat.{ℕ, _+_, _*_, _^_, _%_, _<_, _≤_};
 ghost use lib.ListN.{length, getD, take};
+ghost use Rattle.limits.specs.Limits.{mostWords, mostWidth, mostSwitches};
 ghost use Rattle.laws.specs.Permutation.{Injective};
 ghost use Rattle.network.specs.Setting.{setting};
 ghost use Rattle.network.specs.Steps.{Inverses};
@@ -12,6 +13,7 @@ ghost use Rattle.tables.specs.Format.{shapeOf};
 ghost use Rattle.tables.specs.Generated.{numberAt};
 ghost use Rattle.packing.specs.Packing.{putFields, putHeader, putLine, putFilling, Blank, Planned, Wired, Ready};
 use bits::Writer;
+use limits::MOST_WIDTH;
 use tables::Shape;
 
 // The first `count` values, in fields of `width` bits.
@@ -52,7 +54,7 @@ fn number_of(values: &[u8], from: usize, count: usize) -> u16
 
 // The bits, 16 in a field, since one field of 16 bits is cheaper than 16 fields of one bit.
 fn put_bits(file: &mut [u8], writer: Writer, values: &[u8]) -> Writer
-    requires { ⌜ (length (now values) ≤ 321) × ((i : ℕ) → i < length (now values) → getD (now values) i 0 < 2) ⌝ }
+    requires { ⌜ (length (now values) ≤ mostSwitches) × ((i : ℕ) → i < length (now values) → getD (now values) i 0 < 2) ⌝ }
     requires { ⌜ Open writer × (placeOf writer + length (now values) ≤ 8 * length (now file)) ⌝ }
     ensures { λ r. ⌜ Open r × (placeOf r ≡ placeOf writer + length (now (values .entry))) × (wholeOf (now (file .exit)) r ≡ putFields (wholeOf (now (file .entry)) writer) (placeOf writer) 1 (now (values .entry)) (length (now (values .entry)))) ⌝ }
 {
@@ -91,15 +93,15 @@ pub fn put_filling(file: &mut [u8], shape: Shape)
 // a line fills only their first w entries.
 pub fn plan_line(
     images: &[u16],
-    words: &[u16; 64],
+    words: &[u16; MOST_WIDTH],
     w: usize,
-    reads: &mut [u16; 64],
-    forward: &mut [u8; 64],
-    back: &mut [u8; 64],
-    writes: &mut [u16; 64],
+    reads: &mut [u16; MOST_WIDTH],
+    forward: &mut [u8; MOST_WIDTH],
+    back: &mut [u8; MOST_WIDTH],
+    writes: &mut [u16; MOST_WIDTH],
 )
-    requires { ⌜ (0 < w) × (w ≤ 64) × (length (now words) ≡ 64) × Injective w (λ k. getD (now words) k 0 % w) ⌝ }
-    requires { ⌜ ((k : ℕ) → k < w → (getD (now words) k 0 < length (now images)) × (getD (now words) k 0 < 4096)) ⌝ }
+    requires { ⌜ (0 < w) × (w ≤ mostWidth) × (length (now words) ≡ mostWidth) × Injective w (λ k. getD (now words) k 0 % w) ⌝ }
+    requires { ⌜ ((k : ℕ) → k < w → (getD (now words) k 0 < length (now images)) × (getD (now words) k 0 < mostWords)) ⌝ }
     requires { ⌜ Blank w (now reads) (now forward) (now back) (now writes) ⌝ }
     ensures { λ _. ⌜ Planned w (λ i. getD (now (images .entry)) i 0) (now (words .entry)) w (now (reads .exit)) (now (forward .exit)) (now (back .exit)) (now (writes .exit)) ⌝ }
 {
@@ -118,8 +120,8 @@ pub fn plan_line(
 // Sets the first `count` bits to those of the network that carries its lines as `forward` says.
 fn set_switches(forward: &[u8], back: &[u8], switches: &mut [u8], count: usize)
     requires { ⌜ ((d : ℕ) × Sized (length (now forward)) count d) ⌝ }
-    requires { ⌜ (length (now forward) ≤ 64) × (count ≤ 321) × Inverses (now forward) (now back) × (length (now switches) ≡ 321) ⌝ }
-    ensures { λ _. ⌜ (length (now (switches .exit)) ≡ 321) × ((d : ℕ) → Sized (length (now (forward .entry))) count d → take count (now (switches .exit)) ≡ setting d (λ i. getD (now (forward .entry)) i 0)) ⌝ }
+    requires { ⌜ (length (now forward) ≤ mostWidth) × (count ≤ mostSwitches) × Inverses (now forward) (now back) × (length (now switches) ≡ mostSwitches) ⌝ }
+    ensures { λ _. ⌜ (length (now (switches .exit)) ≡ mostSwitches) × ((d : ℕ) → Sized (length (now (forward .entry))) count d → take count (now (switches .exit)) ≡ setting d (λ i. getD (now (forward .entry)) i 0)) ⌝ }
 {
     network::set_bits(forward, back, &mut switches[..count]);
 }
@@ -134,8 +136,8 @@ fn put_switches(
     switches: &mut [u8],
 ) -> Writer
     requires { ⌜ (Dims (shape .words) (shape .width)) × (shape ≡ shapeOf (shape .words) (shape .width)) × Wired (shape .width) (now forward) (now back) ⌝ }
-    requires { ⌜ Open writer × (placeOf writer + shape .switches ≤ 8 * length (now file)) × (length (now switches) ≡ 321) ⌝ }
-    ensures { λ r. ⌜ Open r × (placeOf r ≡ placeOf writer + shape .switches) × (wholeOf (now (file .exit)) r ≡ putFields (wholeOf (now (file .entry)) writer) (placeOf writer) 1 (setting (depth (shape .width)) (λ x. getD (now (forward .entry)) x 0)) (shape .switches)) × (length (now (switches .exit)) ≡ 321) ⌝ }
+    requires { ⌜ Open writer × (placeOf writer + shape .switches ≤ 8 * length (now file)) × (length (now switches) ≡ mostSwitches) ⌝ }
+    ensures { λ r. ⌜ Open r × (placeOf r ≡ placeOf writer + shape .switches) × (wholeOf (now (file .exit)) r ≡ putFields (wholeOf (now (file .entry)) writer) (placeOf writer) 1 (setting (depth (shape .width)) (λ x. getD (now (forward .entry)) x 0)) (shape .switches)) × (length (now (switches .exit)) ≡ mostSwitches) ⌝ }
 {
     if shape.switches == 0 {
         return writer;
@@ -161,8 +163,8 @@ pub fn put_line(
     switches: &mut [u8],
 ) -> Writer
     requires { ⌜ (Dims (shape .words) (shape .width)) × (shape ≡ shapeOf (shape .words) (shape .width)) × Ready (shape .words) (shape .width) (now reads) (now forward) (now back) (now writes) ⌝ }
-    requires { ⌜ Open writer × (placeOf writer + shape .stride ≤ 8 * length (now file)) × (length (now switches) ≡ 321) ⌝ }
-    ensures { λ r. ⌜ Open r × (placeOf r ≡ placeOf writer + shape .stride) × (wholeOf (now (file .exit)) r ≡ putLine (shape .words) (shape .width) (wholeOf (now (file .entry)) writer) (placeOf writer) (now (reads .entry)) (now (forward .entry)) (now (writes .entry))) × (length (now (switches .exit)) ≡ 321) ⌝ }
+    requires { ⌜ Open writer × (placeOf writer + shape .stride ≤ 8 * length (now file)) × (length (now switches) ≡ mostSwitches) ⌝ }
+    ensures { λ r. ⌜ Open r × (placeOf r ≡ placeOf writer + shape .stride) × (wholeOf (now (file .exit)) r ≡ putLine (shape .words) (shape .width) (wholeOf (now (file .entry)) writer) (placeOf writer) (now (reads .entry)) (now (forward .entry)) (now (writes .entry))) × (length (now (switches .exit)) ≡ mostSwitches) ⌝ }
 {
     let read = put_addresses(file, writer, shape.address, reads, shape.width);
     let set = put_switches(file, read, shape, forward, back, switches);

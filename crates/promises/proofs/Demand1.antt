@@ -2,7 +2,7 @@
 -- alters only the words that it names, the first so many of a list. All over the definitions that the contracts of the calls cite. A list that
 -- is not named here is lent as a shared slice, which no call can write; so is all that `follow` is lent.
 use Prim.Native.Nat.{ℕ, _+_, _*_, _-_, _≤_, _<_}
-use mathlib.Core.Path.{_≡_, refl, sym, ap, _∙_}
+use mathlib.Core.Path.{_≡_, refl, ap, _∙_}
 use mathlib.Core.List.{List, _++_}
 use mathlib.Core.Logic.{_⊎_, inl, inr, ⊎-elim}
 use native.Mathlib.Omega.{arith}
@@ -24,9 +24,9 @@ use Rattle.tables.specs.Format.{headerWords, headerWidth, shapeOf, openOf}
 use Rattle.tables.specs.Datapath.{readStrays, carryStrays, writeStrays, strays}
 use Rattle.tables.specs.Reading.{readOf, outcome as read}
 use Rattle.tables.specs.Generated.{setOf as generatedSet}
-use Rattle.tables.specs.declared.Opened.the-variants.{Set, Refused as Unopened}
+use Rattle.tables.specs.declared.Opened.the-variants.{Set}
 use Rattle.tables.specs.declared.Reading.the-variants.{Read, Refused as Unread}
-use Rattle.tables.proofs.Form.{Form, open-cases}
+use Rattle.tables.proofs.Form.{open-cases}
 use Rattle.tables.proofs.Packed.{getD-behind}
 use Rattle.tables.proofs.SetBits.{length-setOf}
 use Rattle.tables.proofs.Within.{strays-within}

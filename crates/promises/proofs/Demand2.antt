@@ -4,8 +4,8 @@
 use Prim.Native.Nat.{ℕ, _*_, _<_, _≤_}
 use mathlib.Core.Path.{_≡_}
 use mathlib.Core.List.{List}
-use mathlib.Core.Logic.{_⊎_, _↔_}
-use lib.ListN.{length, getD}
+use mathlib.Core.Logic.{_↔_}
+use lib.ListN.{length}
 use Rattle.laws.specs.Tabulate.{overwrite}
 use Rattle.laws.specs.Permutation.{Permutes}
 use Rattle.refusal.specs.declared.Refusal.{Refusal}

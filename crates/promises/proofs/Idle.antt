@@ -21,7 +21,7 @@ use Rattle.generator.specs.Generating.{Generates}
 use Rattle.generator.specs.declared.Generation.{Generation}
 use Rattle.generator.specs.declared.Generation.the-variants.{Written, Refused as Unmade}
 use Rattle.generator.proofs.Checking.{Passed, passed-checks}
-use Rattle.promises.proofs.Demand3.{Good, demand-3}
+use Rattle.promises.proofs.Demand3.{demand-3}
 
 module _ {n w : ℕ} {images file scratch : List ℕ} {answer : Generation} {file′ scratch′ : List ℕ}
     (R : Passed n w images (length file) (length scratch)) (G : Generates n w images file scratch answer file′ scratch′) where

@@ -1,6 +1,6 @@
 -- A frame of one cycle leaves generating no choice: every read address is 0, so the file is the set of these reads. With the computed
 -- examples this says which bytes generating gives in examples 1 to 3.
-use Prim.Native.Nat.{ℕ, _<_}
+use Prim.Native.Nat.{ℕ}
 use mathlib.Core.Path.{_≡_, _∙_}
 use mathlib.Core.List.{List}
 use native.Mathlib.Omega.{arith}

@@ -1,6 +1,6 @@
 -- A clock in three lent numbers. Putting the clock that the numbers hold leaves them as they are, so a refused step alters none of them.
 use Prim.Native.Nat.{ℕ, zero, suc}
-use mathlib.Core.Path.{_≡_, refl, sym, ap, ap₂, _∙_}
+use mathlib.Core.Path.{_≡_, refl, ap}
 use mathlib.Core.List.{List, [], _∷_}
 use lib.ListN.{getD, set}
 use Rattle.rughtena.specs.Answers.{clockOf, putClock}

@@ -10,7 +10,7 @@ ghost use Rattle.generator.specs.declared.Generation.{Generation};
 ghost use Rattle.machine.specs.Step.{stepOf, outcome as stepOutcome};
 ghost use Rattle.machine.specs.Machine.{clockAfter};
 ghost use Rattle.machine.specs.declared.Stepped.{Stepped};
-ghost use Rattle.rughtena.specs.Answers.{refusalAnswer, lineAnswer, settingAnswer, readingAnswer, generationAnswer, clockOf, putClock, steppedAnswer};
+ghost use Rattle.rughtena.specs.Answers.{lineAnswer, settingAnswer, readingAnswer, generationAnswer, clockOf, putClock, steppedAnswer};
 
 mod answers;
 

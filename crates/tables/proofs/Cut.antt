@@ -8,6 +8,7 @@ use native.Mathlib.Omega.{arith}
 use native.Mathlib.Decide.{decLe}
 use lib.ListN.{length, take}
 use lib.Seq.{length-take-le, take-all}
+use Rattle.limits.specs.Limits.{mostWords, mostWidth}
 use Rattle.laws.proofs.Choices.{ifLt-no, ifLt-yes, ifLt-both, ifEq-both}
 use Rattle.bits.proofs.Fields.{field-take}
 use Rattle.refusal.specs.declared.Refusal.the-variants.{FileLong}
@@ -25,9 +26,9 @@ use Rattle.tables.proofs.Exact.{read-unopened}
 limits-ext : (n w zeros : ℕ) (next other : Opened) → (Dims n w → next ≡ other) → limitTest n w zeros next ≡ limitTest n w zeros other
 limits-ext n w zeros next other same =
     ifLt-both Same n 1 _ _ _ _ (λ _. refl) λ some.
-    ifLt-both Same 4096 n _ _ _ _ (λ _. refl) λ few.
+    ifLt-both Same mostWords n _ _ _ _ (λ _. refl) λ few.
     ifLt-both Same w 1 _ _ _ _ (λ _. refl) λ wide.
-    ifLt-both Same 64 w _ _ _ _ (λ _. refl) λ narrow.
+    ifLt-both Same mostWidth w _ _ _ _ (λ _. refl) λ narrow.
     ifEq-both Same (n % w) 0 _ _ _ _ (λ even.
     ifEq-both Same zeros 0 _ _ _ _ (λ _. same (record { some = some; few = few; wide = wide; narrow = narrow; even = even })) (λ _. refl))
     (λ _. refl)

@@ -7,6 +7,7 @@ use native.Mathlib.Decide.{ℕ-discrete}
 use native.Mathlib.Nat.{div-add-mod', div-le-self, mul-le-mul, mul-le-mul-right, pow-suc, pow-le-pow-right, zero-mul, suc-mul, div-lt-iff-lt-mul}
 use lib.Arith.{digits-lt, digits-div, digits-mod}
 use lib.Pow.{pow-pos}
+use Rattle.limits.specs.Limits.{mostWords, mostWidth, mostSwitches}
 use Rattle.laws.proofs.Choices.{ifLe-cases}
 use Rattle.network.specs.Network.{bitCount}
 use Rattle.network.proofs.Counts.{bitCount-mono}
@@ -66,7 +67,7 @@ module _ {n w : ℕ} (D : Dims n w) where
     | no ne ↦ omega arith
   ]
 
-  pub cycles-few : cycles n w ≤ 4096
+  pub cycles-few : cycles n w ≤ mostWords
   unfolding cycles
   cycles-few = omega (arith, div-le-self n w)
 
@@ -87,10 +88,10 @@ module _ {n w : ℕ} (D : Dims n w) where
   unfolding depth
   depth-few = logUp-least w 6 (omega arith)
 
-  pub lines-few : 2 ^ depth w ≤ 64
+  pub lines-few : 2 ^ depth w ≤ mostWidth
   lines-few = pow-le-pow-right {n = 2} (omega arith) depth-few
 
-  pub switchBits-few : switchBits w ≤ 321
+  pub switchBits-few : switchBits w ≤ mostSwitches
   unfolding switchBits bitCount
   switchBits-few = omega (arith, bitCount-mono (depth w) 6 depth-few)
 
@@ -137,7 +138,7 @@ lineAt-order n w t s l = omega (arith, suc-mul t (lineBits n w), mul-le-mul-righ
 -- the whole set is far from any overflow
 pub lineAt-few : {n w : ℕ} → Dims n w → (t : ℕ) → t ≤ cycles n w → lineAt n w t ≤ 2 ^ 24
 unfolding lineAt headerBits
-lineAt-few D t l = omega (arith, cycles-few D, mul-le-mul {n₁ = t} {n₂ = 4096} (omega (arith, cycles-few D)) (lineBits-few D))
+lineAt-few D t l = omega (arith, cycles-few D, mul-le-mul {n₁ = t} {n₂ = mostWords} (omega (arith, cycles-few D)) (lineBits-few D))
 
 -- the file's last byte holds the last line's end, or what is filled up behind it
 pub fileLength-reaches : (n w : ℕ) → lineAt n w (cycles n w) ≤ 8 * fileLength n w

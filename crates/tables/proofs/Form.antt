@@ -6,6 +6,7 @@ use mathlib.Core.List.{List}
 use mathlib.Core.Logic.{_⊎_, inl, inr, ⊎-elim}
 use native.Mathlib.Omega.{arith}
 use lib.ListN.{length}
+use Rattle.limits.specs.Limits.{mostWords, mostWidth}
 use Rattle.laws.specs.Permutation.{Permutes}
 use Rattle.laws.proofs.Choices.{ifLt-no, ifEq-yes, ifLt-cases, ifEq-cases}
 use Rattle.refusal.specs.declared.Refusal.{Refusal}
@@ -35,9 +36,9 @@ unfolding openOf headerTest lengthTest
 form-opened {n} {w} {file} F = rw (F .words, F .width) (sym (
     ifLt-no (length file) 3 _ _ _ (omega (arith, F .long, fileLength-header n w)) (
     ifLt-no n 1 _ _ _ (F .dims .some) (
-    ifLt-no 4096 n _ _ _ (F .dims .few) (
+    ifLt-no mostWords n _ _ _ (F .dims .few) (
     ifLt-no w 1 _ _ _ (F .dims .wide) (
-    ifLt-no 64 w _ _ _ (F .dims .narrow) (
+    ifLt-no mostWidth w _ _ _ (F .dims .narrow) (
     ifEq-yes (n % w) 0 _ _ _ (F .dims .even) (
     ifEq-yes (headerZeros file) 0 _ _ _ (F .zeros) (
     ifLt-no (length file) (fileLength n w) _ _ _ (omega (arith, F .long)) (
@@ -54,9 +55,9 @@ open-cases file =
     let w : ℕ = headerWidth file in
     ifLt-cases Judged (length file) 3 _ _ (λ _. inr (FileShort, refl)) λ l.
     ifLt-cases Judged n 1 _ _ (λ _. inr (Header, refl)) λ some.
-    ifLt-cases Judged 4096 n _ _ (λ _. inr (Header, refl)) λ few.
+    ifLt-cases Judged mostWords n _ _ (λ _. inr (Header, refl)) λ few.
     ifLt-cases Judged w 1 _ _ (λ _. inr (Header, refl)) λ wide.
-    ifLt-cases Judged 64 w _ _ (λ _. inr (Header, refl)) λ narrow.
+    ifLt-cases Judged mostWidth w _ _ (λ _. inr (Header, refl)) λ narrow.
     ifEq-cases Judged (n % w) 0 _ _ (λ even.
     ifEq-cases Judged (headerZeros file) 0 _ _ (λ zeros.
     ifLt-cases Judged (length file) (fileLength n w) _ _ (λ _. inr (FileShort, refl)) λ enough.

@@ -1,33 +1,30 @@
 -- One line of reading. The marks tell exactly which words were read and which places were taken, so the search for a faulty address is
 -- the definition's; a line that passes has its words and places marked, which no earlier line touched.
-use Prim.Native.Nat.{ℕ, suc, _+_, _*_, _-_, _%_, _^_, _<_, _≤_}
+use Prim.Native.Nat.{ℕ, suc, _+_, _*_, _-_, _%_, _<_, _≤_}
 use native.Mathlib.Nat.{mod-lt}
-use mathlib.Core.Path.{_≡_, refl, sym, ap, ap₂, subst, _∙_}
+use mathlib.Core.Path.{_≡_, refl, sym, ap, subst, _∙_}
 use mathlib.Core.Bool.{Bool, true, false, not}
 use mathlib.Core.List.{List}
-use mathlib.Core.Logic.{_⊎_, inl, inr, ⊎-elim}
 use native.Mathlib.Omega.{arith}
-use native.Mathlib.Decide.{ℕ-discrete, decLt}
-use lib.Dec.{leb, eqb, ltb}
+use native.Mathlib.Decide.{decLt}
+use lib.Dec.{leb, eqb}
 use lib.ListN.{length, getD, replicate, length-replicate, getD-replicate}
-use borrow.Author.Tests.{leb-true, leb-false, le-leb, lt-leb, eq-eqb, ne-eqb, eqb-true, eqb-false, lt-ltb, le-ltb, ltb-true}
+use borrow.Author.Tests.{leb-false, eq-eqb, ne-eqb, eqb-true, eqb-false}
+use Rattle.limits.specs.Limits.{mostWords, noWord}
 use Rattle.laws.specs.Choice.{choose}
 use Rattle.laws.specs.Any.{any}
-use Rattle.laws.specs.Permutation.{Permutes, inverse}
-use Rattle.laws.proofs.Choices.{choose-yes, choose-no, choose-cases}
-use Rattle.laws.proofs.Anys.{any-true, any-false, any-some, any-none, any-ext}
+use Rattle.laws.proofs.Anys.{any-true, any-false, any-ext}
 use Rattle.laws.proofs.Permutations.{onto}
 use Rattle.refusal.specs.declared.Refusal.{Refusal}
 use Rattle.network.specs.Network.{leaves}
-use Rattle.network.proofs.Leaves.{leaves-permutes, leaves-below}
 use Rattle.network.proofs.Carried.{leaves-kept}
-use Rattle.tables.specs.Terms.{cycles, addressBits, depth, addressRow, switchBits}
-use Rattle.tables.specs.Format.{lineAt, readAddress, switchBit, writeAddress}
+use Rattle.tables.specs.Terms.{cycles, depth}
+use Rattle.tables.specs.Format.{readAddress, switchBit, writeAddress}
 use Rattle.tables.specs.Datapath.{carriedTo, source, target, carryStrays}
 use Rattle.tables.specs.Reading.{Outcome, readFault, writeFault, scanLines, imageOf}
-use Rattle.tables.specs.Lines.{Addresses, Sources, Line, spareUsed}
+use Rattle.tables.specs.Lines.{Line}
 use Rattle.tables.specs.Gathering.{faulty, wordAt, placeAt, Gather, Markable, Marked}
-use Rattle.tables.proofs.Dims.{Dims, cycles-mul, word-below, word-injective, depth-reaches, lines-few}
+use Rattle.tables.proofs.Dims.{Dims, word-below, word-injective, depth-reaches}
 use Rattle.tables.proofs.Accepted.{Accepted, Passes, passes-accepted, accepted-scan, scan-passes}
 use Rattle.tables.proofs.Targets.{source-found}
 use Rattle.tables.proofs.Lined.{read-is, write-is, source-is}
@@ -50,31 +47,31 @@ fault-fresh t address c x h s l = by (leb c x) h
     by false g e = eqb-false (address s) x (any-false t (λ s. eqb (address s) x) g s l) e
 
 -- nothing gathered
-pub gather-none : (n w : ℕ) (file : List ℕ) → Dims n w → Gather n w file 0 (replicate 4096 65535) (replicate 4096 65535)
+pub gather-none : (n w : ℕ) (file : List ℕ) → Dims n w → Gather n w file 0 (replicate mostWords noWord) (replicate mostWords noWord)
 gather-none n w file D = record {
-  long = length-replicate {A = ℕ} 4096 65535;
-  long′ = length-replicate {A = ℕ} 4096 65535;
+  long = length-replicate {A = ℕ} mostWords noWord;
+  long′ = length-replicate {A = ℕ} mostWords noWord;
   passed = λ s l. absurd (omega arith);
   placed = λ s b l m. absurd (omega arith);
   worded = λ s b l m. absurd (omega arith);
-  unread = λ a b l m f. getD-replicate {A = ℕ} 4096 (a * w + b) 65535 0 (inside a b l m);
-  untaken = λ a b l m f. getD-replicate {A = ℕ} 4096 (a * w + b) 65535 0 (inside a b l m);
+  unread = λ a b l m f. getD-replicate {A = ℕ} mostWords (a * w + b) noWord 0 (inside a b l m);
+  untaken = λ a b l m f. getD-replicate {A = ℕ} mostWords (a * w + b) noWord 0 (inside a b l m);
 }
   where
-    inside : (a b : ℕ) → a < cycles n w → b < w → a * w + b < 4096
+    inside : (a b : ℕ) → a < cycles n w → b < w → a * w + b < mostWords
     inside a b l m = omega (arith, word-below D a b l m, D .few)
 
 -- whether a mark stands where one of t earlier addresses of the bank equals this one
-mark-tells : (t : ℕ) (address : ℕ → ℕ) (x mark : ℕ) → ((s : ℕ) → s < t → address s ≡ x → mark ≡ 65535 → ⊥)
-    → (((s : ℕ) → s < t → address s ≡ x → ⊥) → mark ≡ 65535) → not (eqb mark 65535) ≡ any t (λ s. eqb (address s) x)
+mark-tells : (t : ℕ) (address : ℕ → ℕ) (x mark : ℕ) → ((s : ℕ) → s < t → address s ≡ x → mark ≡ noWord → ⊥)
+    → (((s : ℕ) → s < t → address s ≡ x → ⊥) → mark ≡ noWord) → not (eqb mark noWord) ≡ any t (λ s. eqb (address s) x)
 mark-tells t address x mark met none = by (any t (λ s. eqb (address s) x)) refl
   where
-    by : (r : Bool) → any t (λ s. eqb (address s) x) ≡ r → not (eqb mark 65535) ≡ r
+    by : (r : Bool) → any t (λ s. eqb (address s) x) ≡ r → not (eqb mark noWord) ≡ r
     by true e =
         let m = any-true t (λ s. eqb (address s) x) e in
-        ap not (ne-eqb mark 65535 (met (m .0) (m .1) (eqb-true (address (m .0)) x (m .2))))
+        ap not (ne-eqb mark noWord (met (m .0) (m .1) (eqb-true (address (m .0)) x (m .2))))
     by false e =
-        ap not (eq-eqb mark 65535 (none (λ s l q. eqb-false (address s) x (any-false t (λ s. eqb (address s) x) e s l) q)))
+        ap not (eq-eqb mark noWord (none (λ s l q. eqb-false (address s) x (any-false t (λ s. eqb (address s) x) e s l) q)))
 
 -- the two searches agree where marks and earlier addresses do
 faults-agree : (w c : ℕ) (addresses marks : List ℕ) (fault : ℕ → Bool)
@@ -105,13 +102,13 @@ module _ {n w : ℕ} {file : List ℕ} {t : ℕ} {places words reads sources wri
   unfolding carryStrays
   before-carried s l b m = leb-false w (carriedTo n w file s b) (any-false w (λ b. leb w (carriedTo n w file s b)) (G .passed s l .1) b m)
 
-  before-target : (s b : ℕ) → s < t → b < w → target n w file s b < 4096
+  before-target : (s b : ℕ) → s < t → b < w → target n w file s b < mostWords
   unfolding target
   before-target s b l m =
       let k = before-carried s l b m in
       omega (arith, word-below D (writeAddress n w file s (carriedTo n w file s b)) (carriedTo n w file s b) (before-write s _ l k) k, D .few)
 
-  before-source : (s b : ℕ) → s < t → b < w → source n w file s b < 4096
+  before-source : (s b : ℕ) → s < t → b < w → source n w file s b < mostWords
   unfolding source
   before-source s b l m = omega (arith, word-below D (readAddress n w file s b) b (before-read s b l m) m, D .few)
 

@@ -5,6 +5,7 @@ use mathlib.Core.Path.{_≡_, refl, ap}
 use native.Mathlib.Omega.{arith}
 use native.Mathlib.Decide.{decLe}
 use native.Mathlib.Nat.{mul-assoc, mul-add, mul-le-mul, mul-le-mul-left}
+use Rattle.limits.specs.Limits.{mostWords}
 use Rattle.network.specs.Network.{bitCount}
 use Rattle.tables.specs.Terms.{cycles, addressBits, depth, switchBits, addressRow, lineBits, fileLength}
 use Rattle.tables.proofs.Dims.{Dims, cycles-mul, logUp-least, depth-few}
@@ -26,13 +27,13 @@ module _ {n w : ℕ} (D : Dims n w) where
 
   -- a bound for the cycles, for the bits of an address, and for the switches
   bounded : (most bits switches : ℕ) → cycles n w ≤ most → most ≤ 2 ^ bits → switchBits w ≤ switches
-      → 2 * (4096 * bits) + most * switches ≤ 98304 → cycles n w * lineBits n w ≤ 98304
+      → 2 * (mostWords * bits) + most * switches ≤ 98304 → cycles n w * lineBits n w ≤ 98304
   unfolding addressBits
   bounded most bits switches m k s fits =
       omega (arith, lines-total, mul-le-mul (D .few) (logUp-least (cycles n w) bits (omega arith)), mul-le-mul m s)
 
   -- a wider frame has fewer cycles
-  cycles-bound : (least : ℕ) → least ≤ w → cycles n w * least ≤ 4096
+  cycles-bound : (least : ℕ) → least ≤ w → cycles n w * least ≤ mostWords
   cycles-bound least l = omega (arith, mul-le-mul-left (cycles n w) l, cycles-mul D)
 
   -- a network that needs depth e + 1 has more than 2 ^ e lines
@@ -48,7 +49,7 @@ module _ {n w : ℕ} (D : Dims n w) where
       switches d q = omega (arith, ap bitCount q)
 
       by : (d : ℕ) → depth w ≡ d → cycles n w * lineBits n w ≤ 98304
-      by zero q = bounded 4096 12 0 (omega (arith, cycles-bound 1 (D .wide))) (omega arith) (switches 0 q) (omega arith)
+      by zero q = bounded mostWords 12 0 (omega (arith, cycles-bound 1 (D .wide))) (omega arith) (switches 0 q) (omega arith)
       by (suc zero) q = bounded 2048 11 1 (omega (arith, cycles-bound 2 (width-above 0 q))) (omega arith) (switches 1 q) (omega arith)
       by (suc (suc zero)) q = bounded 1365 11 5 (omega (arith, cycles-bound 3 (width-above 1 q))) (omega arith) (switches 2 q) (omega arith)
       by (suc (suc (suc zero))) q =

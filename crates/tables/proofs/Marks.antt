@@ -7,8 +7,9 @@ use native.Mathlib.Omega.{arith}
 use native.Mathlib.Decide.{ℕ-discrete}
 use lib.Dec.{leb, eqb}
 use lib.ListN.{length, getD, set, length-set}
-use lib.Seq.{getD-set-same, getD-set-other}
+use lib.Seq.{getD-set-other}
 use borrow.Author.Tests.{le-leb, lt-leb, eq-eqb, ne-eqb}
+use Rattle.limits.specs.Limits.{noWord}
 use Rattle.laws.specs.Choice.{choose}
 use Rattle.laws.specs.Any.{any}
 use Rattle.laws.proofs.Choices.{choose-yes, choose-no}
@@ -18,7 +19,7 @@ use Rattle.tables.specs.Gathering.{faulty, wordAt, placeAt, Markable, Ma
 
 -- the test of bank b
 abbrev pub faultAt : List ℕ → List ℕ → ℕ → ℕ → ℕ → Bool
-faultAt addresses marks w c b = choose (leb c (getD addresses b 0)) true (not (eqb (getD marks (getD addresses b 0 * w + b) 0) 65535))
+faultAt addresses marks w c b = choose (leb c (getD addresses b 0)) true (not (eqb (getD marks (getD addresses b 0 * w + b) 0) noWord))
 
 -- no bank below b is faulty
 pub record Sound (addresses marks : List ℕ) (w c b : ℕ) : Type 0 where
@@ -33,18 +34,18 @@ module _ (addresses marks : List ℕ) (w c : ℕ) where
   unfolding faulty
   fault-outside b l h = sym (any-some w (faultAt addresses marks w c) b l (sym (choose-yes (leb c (getD addresses b 0)) true true _ (le-leb c (getD addresses b 0) h) refl)))
 
-  pub fault-marked : (b : ℕ) → b < w → getD addresses b 0 < c → (getD marks (getD addresses b 0 * w + b) 0 ≡ 65535 → ⊥) → true ≡ faulty addresses marks w c
+  pub fault-marked : (b : ℕ) → b < w → getD addresses b 0 < c → (getD marks (getD addresses b 0 * w + b) 0 ≡ noWord → ⊥) → true ≡ faulty addresses marks w c
   unfolding faulty
   fault-marked b l h ne =
       sym (any-some w (faultAt addresses marks w c) b l (sym (choose-no (leb c (getD addresses b 0)) true true _ (lt-leb c (getD addresses b 0) h)
-      (sym (ap not (ne-eqb (getD marks (getD addresses b 0 * w + b) 0) 65535 ne))))))
+      (sym (ap not (ne-eqb (getD marks (getD addresses b 0 * w + b) 0) noWord ne))))))
 
-  pub sound-more : {b : ℕ} → Sound addresses marks w c b → b < w → getD addresses b 0 < c → getD marks (getD addresses b 0 * w + b) 0 ≡ 65535
+  pub sound-more : {b : ℕ} → Sound addresses marks w c b → b < w → getD addresses b 0 < c → getD marks (getD addresses b 0 * w + b) 0 ≡ noWord
       → Sound addresses marks w c (b + 1)
   sound-more {b} S l h e = record {
     upto = omega arith;
     none = λ i m. elim (ℕ-discrete i b) [
-      | yes q ↦ rw q (sym (choose-no (leb c (getD addresses b 0)) false true _ (lt-leb c (getD addresses b 0) h) (sym (ap not (eq-eqb (getD marks (getD addresses b 0 * w + b) 0) 65535 e)))))
+      | yes q ↦ rw q (sym (choose-no (leb c (getD addresses b 0)) false true _ (lt-leb c (getD addresses b 0) h) (sym (ap not (eq-eqb (getD marks (getD addresses b 0 * w + b) 0) noWord e)))))
       | no q ↦ S .none i (omega arith)
     ];
   }

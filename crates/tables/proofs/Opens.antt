@@ -10,16 +10,15 @@ use lib.Count.{leadingZeros, leading-length}
 use lib.Dec.{lit<}
 use lib.ListN.{length}
 use lib.Pow.{shl-exact}
-use Rattle.laws.specs.Choice.{ifLt, ifEq}
+use Rattle.limits.specs.Limits.{mostWidth, mostSwitches}
+use Rattle.laws.specs.Choice.{ifLt}
 use Rattle.laws.proofs.Choices.{ifLt-no}
 use Rattle.bits.specs.Bits.{field}
-use Rattle.refusal.specs.declared.Refusal.the-variants.{Header}
 use Rattle.network.specs.Network.{bitCount}
 use Rattle.tables.specs.Terms.{Dims, logUp, cycles, addressBits, depth, switchBits, addressRow, lineBits, headerBits, fileLength}
 use Rattle.tables.specs.Format.{headerWords, headerWidth, headerZeros, lineAt, shapeOf, limitTest, headerTest, lengthTest, openOf}
 use Rattle.tables.specs.declared.Shape.{Shape}
 use Rattle.tables.specs.declared.Opened.{Opened}
-use Rattle.tables.specs.declared.Opened.the-variants.{Refused}
 use Rattle.tables.proofs.Dims.{logUp-least, logUp-reaches, depth-few, addressRow-few, switchBits-few}
 
 -- ---- the least power of two that is large enough
@@ -31,8 +30,8 @@ log-up-digits x some fits = elim (decLe digits (logUp x)) [
   | no l ↦ absurd (omega (arith, found .3, logUp-reaches x, pow-suc 2 (logUp x), pow-le-pow-right {n = 2} (omega arith) (beyond l)))
 ]
   where
-    found : (m : ℕ) × (leadingZeros 64 (x - 1) + m ≡ 64) × (x - 1 < 2 ^ m) × (2 ^ m ≤ 2 * (x - 1) + 1)
-    found = leading-length 64 (x - 1) fits
+    found : (m : ℕ) × (leadingZeros 64 (x - 1) + m ≡ mostWidth) × (x - 1 < 2 ^ m) × (2 ^ m ≤ 2 * (x - 1) + 1)
+    found = leading-length mostWidth (x - 1) fits
 
     digits : ℕ
     digits = found .0
@@ -44,11 +43,11 @@ log-up-digits x some fits = elim (decLe digits (logUp x)) [
 
 -- `1 << d`, of 64 bits
 one-shl-wide : (d : ℕ) → d ≤ 6 → 1 * 2 ^ d % 2 ^ 64 ≡ 2 ^ d
-one-shl-wide d l = shl-exact {a = 1} 1 d 64 (lit< tt) (omega arith) ∙ one-mul (2 ^ d)
+one-shl-wide d l = shl-exact {a = 1} 1 d mostWidth (lit< tt) (omega arith) ∙ one-mul (2 ^ d)
 
 -- the parts as the code works them out: the bits of an address, the depth of the network and its switches
 module _ {n w a d s : ℕ} (D : Dims n w) (address : a ≡ logUp (n / w)) (deep : d ≡ logUp w) (switches : s ≡ bitCount d) where
-  pub parts-few : (w * a ≤ 768) × (s ≤ 321)
+  pub parts-few : (w * a ≤ 768) × (s ≤ mostSwitches)
   unfolding addressRow addressBits cycles switchBits depth
   parts-few = (rw address (addressRow-few D), rw (switches, deep) (switchBits-few D))
 

@@ -7,6 +7,7 @@ use native.Mathlib.Omega.{arith}
 use lib.ListN.{length, getD, take, drop, length-append, length-drop, List·getD-append}
 use lib.Pow.{pow-pos}
 use lib.Seq.{length-take-le, getD-take}
+use Rattle.limits.specs.Limits.{mostWidth, mostSwitches}
 use Rattle.bits.specs.Bits.{bit}
 use Rattle.network.specs.Network.{bitCount, leaves}
 use Rattle.network.specs.Calls.{Sized, Routed}
@@ -23,8 +24,8 @@ pub fronts-sized : (d : ℕ) {lines count : ℕ} (found standing : List ℕ) →
 fronts-sized d {lines} {count} found standing S l m = (length-take-le lines standing l ∙ S .0, length-take-le count found m ∙ S .1)
 
 -- a pass over the front of the numbered lines
-pub sources-routed : {d at lines count : ℕ} {file found after : List ℕ} (standing : List ℕ) → Sized lines count d → lines ≤ 64
-    → Switches file at count found → (length standing ≡ 64) × ((x : ℕ) → x < lines → getD standing x 0 ≡ x)
+pub sources-routed : {d at lines count : ℕ} {file found after : List ℕ} (standing : List ℕ) → Sized lines count d → lines ≤ mostWidth
+    → Switches file at count found → (length standing ≡ mostWidth) × ((x : ℕ) → x < lines → getD standing x 0 ≡ x)
     → Routed d (take count found) (take lines standing) after → Sources d file at (after ++ drop lines standing)
 sources-routed {d} {at} {lines} {count} {file} {found} {after} standing S few W N R = record {
   long = simp (length-append, length-drop) (omega (arith, N .0, long));
@@ -45,7 +46,7 @@ sources-routed {d} {at} {lines} {count} {file} {found} {after} standing S few W 
 
 -- a network without bits has one line, which goes straight through
 pub sources-straight : (d : ℕ) {at lines count : ℕ} {standing : List ℕ} (file : List ℕ) → Sized lines count d → count ≡ 0
-    → (length standing ≡ 64) × ((x : ℕ) → x < lines → getD standing x 0 ≡ x) → Sources d file at standing
+    → (length standing ≡ mostWidth) × ((x : ℕ) → x < lines → getD standing x 0 ≡ x) → Sources d file at standing
 unfolding leaves bitCount
 sources-straight zero file S e N = record { long = N .0; each = λ x l. N .1 x (omega (arith, S .0)) }
 sources-straight (suc d) file S e N = absurd (omega (arith, S .1, pow-pos d))
@@ -55,9 +56,9 @@ sources-straight (suc d) file S e N = absurd (omega (arith, S .1, pow-pos d))
 -- the parts of line t keep the limits of what reads them, and end far from any overflow
 pub record Fitting (s : Shape) (t : ℕ) : Type 0 where
   pub address : s .address ≤ 16
-  pub width : s .width ≤ 64
-  pub lines : s .lines ≤ 64
-  pub switches : s .switches ≤ 321
+  pub width : s .width ≤ mostWidth
+  pub lines : s .lines ≤ mostWidth
+  pub switches : s .switches ≤ mostSwitches
   pub within : s .start + t * s .stride + s .width * s .address + s .switches < 2 ^ 32
 
 pub line-fits : {n w t : ℕ} {s : Shape} → Dims n w → s ≡ shapeOf n w → t < cycles n w → Fitting s t

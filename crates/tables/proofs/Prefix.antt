@@ -14,7 +14,7 @@ use Rattle.network.specs.Setting.{setting}
 use Rattle.network.proofs.Carried.{carried-ext}
 use Rattle.tables.specs.Terms.{cycles, addressBits, depth, lineBits, headerBits}
 use Rattle.tables.specs.Format.{lineAt}
-use Rattle.tables.specs.Generated.{wordOf, portOf, writeOf, digits, joined, lineOf, setBits, packed, setOf}
+use Rattle.tables.specs.Generated.{wordOf, portOf, writeOf, digits, joined, lineOf, setBits, setOf}
 use Rattle.tables.proofs.SetBits.{switchesOf, setBits-words, setBits-width, setBits-zeros, setBits-line}
 
 joined-ext : (k : ℕ) (f g : ℕ → List ℕ) → ((i : ℕ) → i < k → f i ≡ g i) → joined k f ≡ joined k g

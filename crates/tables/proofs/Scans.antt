@@ -10,6 +10,7 @@ use borrow.Author.Tests.{lt-ltb, le-ltb, le-leb, lt-leb}
 use lib.Dec.{leb}
 use lib.ListN.{length, getD, set, length-set}
 use lib.Seq.{getD-set-same, getD-set-other}
+use Rattle.limits.specs.Limits.{mostSwitches}
 use Rattle.laws.specs.Any.{any}
 use Rattle.laws.proofs.Anys.{any-none, any-some}
 use Rattle.laws.proofs.Tabulates.{Filling}
@@ -88,8 +89,8 @@ spreading-more {number} {k} {from} {j} {v} {before} {xs} S l e = record {
 }
 
 -- the digits of a field are bits of the file
-pub filling-spread : {before after : List ℕ} {number k i : ℕ} (file : List ℕ) (at : ℕ) → Filling (λ j. bit file (at + j)) 321 i before
-    → Spread number k i before after → number ≡ field file (at + i) k → Filling (λ j. bit file (at + j)) 321 (i + k) after
+pub filling-spread : {before after : List ℕ} {number k i : ℕ} (file : List ℕ) (at : ℕ) → Filling (λ j. bit file (at + j)) mostSwitches i before
+    → Spread number k i before after → number ≡ field file (at + i) k → Filling (λ j. bit file (at + j)) mostSwitches (i + k) after
 filling-spread {number = number} {k = k} {i = i} file at F S e = record {
   long = S .long ∙ F .long;
   filled = λ x l. elim (decLt x i) [

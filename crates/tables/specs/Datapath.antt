@@ -2,7 +2,7 @@
 -- Word i of a frame stands in bank i % w of the first memory at address i / w; place j is in bank j % w of the second at address j / w.
 use Prim.Native.Nat.{ℕ, zero, suc, _+_, _*_, _<_}
 use mathlib.Core.Path.{_≡_}
-use mathlib.Core.Bool.{Bool, true, false}
+use mathlib.Core.Bool.{Bool, true}
 use mathlib.Core.Option.{Option, some, none}
 use mathlib.Core.List.{List}
 use lib.Dec.{leb}

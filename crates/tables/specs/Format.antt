@@ -2,6 +2,7 @@
 use Prim.Native.Nat.{ℕ, _+_, _*_, _-_, _%_, _^_}
 use mathlib.Core.List.{List}
 use lib.ListN.{length}
+use Rattle.limits.specs.Limits.{mostWords, mostWidth}
 use Rattle.laws.specs.Choice.{ifLt, ifEq}
 use Rattle.bits.specs.Bits.{bit, field}
 use Rattle.refusal.specs.declared.Refusal.the-variants.{FileShort, Header, FileLong}
@@ -57,9 +58,9 @@ shapeOf n w = record {
 abbrev pub limitTest : ℕ → ℕ → ℕ → Opened → Opened
 limitTest n w zeros next =
     ifLt n 1 (Refused Header)
-    (ifLt 4096 n (Refused Header)
+    (ifLt mostWords n (Refused Header)
     (ifLt w 1 (Refused Header)
-    (ifLt 64 w (Refused Header) (ifEq (n % w) 0 (ifEq zeros 0 next (Refused Header)) (Refused Header)))))
+    (ifLt mostWidth w (Refused Header) (ifEq (n % w) 0 (ifEq zeros 0 next (Refused Header)) (Refused Header)))))
 
 -- the same of the numbers in the header
 unfoldable pub headerTest : List ℕ → Opened → Opened

@@ -6,6 +6,7 @@ use mathlib.Core.Bool.{Bool, true, false, not}
 use mathlib.Core.List.{List}
 use lib.Dec.{leb, eqb}
 use lib.ListN.{length, getD}
+use Rattle.limits.specs.Limits.{mostWords, mostWidth, noWord}
 use Rattle.laws.specs.Choice.{choose}
 use Rattle.laws.specs.Any.{any}
 use Rattle.refusal.specs.declared.Refusal.{Refusal}
@@ -19,17 +20,17 @@ use Rattle.tables.specs.declared.gathering.Gathered.the-variants.{All, R
 -- an address of a bank is outside the frame, or its word or place is marked
 unfoldable pub faulty : List ℕ → List ℕ → ℕ → ℕ → Bool
 faulty addresses marks w c =
-    any w (λ b. choose (leb c (getD addresses b 0)) true (not (eqb (getD marks (getD addresses b 0 * w + b) 0) 65535)))
+    any w (λ b. choose (leb c (getD addresses b 0)) true (not (eqb (getD marks (getD addresses b 0 * w + b) 0) noWord)))
 
 -- after the lines below t, all of which passed
 pub record Gather (n w : ℕ) (file : List ℕ) (t : ℕ) (places words : List ℕ) : Type 0 where
-  pub long : length places ≡ 4096
-  pub long′ : length words ≡ 4096
+  pub long : length places ≡ mostWords
+  pub long′ : length words ≡ mostWords
   pub passed : (s : ℕ) → s < t → (any w (readFault n w file s) ≡ false) × (carryStrays n w file s ≡ false) × (any w (writeFault n w file s) ≡ false)
   pub placed : (s b : ℕ) → s < t → b < w → getD places (source n w file s b) 0 ≡ target n w file s b
   pub worded : (s b : ℕ) → s < t → b < w → getD words (target n w file s b) 0 ≡ source n w file s b
-  pub unread : (a b : ℕ) → a < cycles n w → b < w → ((s : ℕ) → s < t → readAddress n w file s b ≡ a → ⊥) → getD places (a * w + b) 0 ≡ 65535
-  pub untaken : (a k : ℕ) → a < cycles n w → k < w → ((s : ℕ) → s < t → writeAddress n w file s k ≡ a → ⊥) → getD words (a * w + k) 0 ≡ 65535
+  pub unread : (a b : ℕ) → a < cycles n w → b < w → ((s : ℕ) → s < t → readAddress n w file s b ≡ a → ⊥) → getD places (a * w + b) 0 ≡ noWord
+  pub untaken : (a k : ℕ) → a < cycles n w → k < w → ((s : ℕ) → s < t → writeAddress n w file s k ≡ a → ⊥) → getD words (a * w + k) 0 ≡ noWord
 
 -- what the answer to one line says: it passed, or the scan of the lines stops there
 abbrev pub Gathers : ℕ → ℕ → List ℕ → ℕ → Gathered → List ℕ → List ℕ → Type 0
@@ -51,15 +52,15 @@ placeAt writes w k = getD writes k 0 * w + k
 
 -- a line whose words and places can be marked: they are in the arrays, and different banks send different words
 pub record Markable (reads sources writes places words : List ℕ) (w : ℕ) : Type 0 where
-  pub few : w ≤ 64
-  pub reads-long : length reads ≡ 64
-  pub sources-long : length sources ≡ 64
-  pub writes-long : length writes ≡ 64
-  pub places-long : length places ≡ 4096
-  pub words-long : length words ≡ 4096
+  pub few : w ≤ mostWidth
+  pub reads-long : length reads ≡ mostWidth
+  pub sources-long : length sources ≡ mostWidth
+  pub writes-long : length writes ≡ mostWidth
+  pub places-long : length places ≡ mostWords
+  pub words-long : length words ≡ mostWords
   pub banks : (k : ℕ) → k < w → getD sources k 0 < w
-  pub words-below : (k : ℕ) → k < w → wordAt reads sources w k < 4096
-  pub places-below : (k : ℕ) → k < w → placeAt writes w k < 4096
+  pub words-below : (k : ℕ) → k < w → wordAt reads sources w k < mostWords
+  pub places-below : (k : ℕ) → k < w → placeAt writes w k < mostWords
   pub apart : (j k : ℕ) → j < w → k < w → wordAt reads sources w j ≡ wordAt reads sources w k → j ≡ k
   pub apart′ : (j k : ℕ) → j < w → k < w → placeAt writes w j ≡ placeAt writes w k → j ≡ k
 

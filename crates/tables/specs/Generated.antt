@@ -5,7 +5,7 @@ use mathlib.Core.Path.{_≡_}
 use mathlib.Core.List.{List, [], _++_}
 use lib.ListN.{length, getD}
 use Rattle.laws.specs.Tabulate.{tabulate}
-use Rattle.laws.specs.Permutation.{Injective, Permutes, inverse}
+use Rattle.laws.specs.Permutation.{Injective, inverse}
 use Rattle.bits.specs.Bits.{Bytes, bit, digit}
 use Rattle.network.specs.Carried.{carried}
 use Rattle.network.specs.Setting.{setting}

@@ -5,6 +5,7 @@ use mathlib.Core.Bool.{Bool}
 use mathlib.Core.List.{List}
 use lib.Dec.{ltb}
 use lib.ListN.{length, getD}
+use Rattle.limits.specs.Limits.{mostWidth, mostSwitches}
 use Rattle.laws.specs.Any.{any}
 use Rattle.bits.specs.Bits.{digit, bit, field}
 use Rattle.network.specs.Network.{leaves}
@@ -13,7 +14,7 @@ use Rattle.tables.specs.Format.{lineAt}
 
 -- the addresses that stand from bit `at` on
 pub record Addresses (file : List ℕ) (at address count : ℕ) (found : List ℕ) : Type 0 where
-  pub long : length found ≡ 64
+  pub long : length found ≡ mostWidth
   pub each : (b : ℕ) → b < count → getD found b 0 ≡ field file (at + b * address) address
 
 -- the k binary digits of a number stand from place `from` on, the highest first, and what lies before them is as it was
@@ -24,12 +25,12 @@ pub record Spread (number k from : ℕ) (before after : List ℕ) : Type 0 where
 
 -- the switch bits that stand from bit `at` on
 pub record Switches (file : List ℕ) (at count : ℕ) (found : List ℕ) : Type 0 where
-  pub long : length found ≡ 321
+  pub long : length found ≡ mostSwitches
   pub each : (i : ℕ) → i < count → getD found i 0 ≡ bit file (at + i)
 
 -- on the line to which a network carries line x stands x; its bits stand from bit `at` on
 pub record Sources (d : ℕ) (file : List ℕ) (at : ℕ) (found : List ℕ) : Type 0 where
-  pub long : length found ≡ 64
+  pub long : length found ≡ mostWidth
   pub each : (x : ℕ) → x < 2 ^ d → getD found (leaves d (λ i. bit file (at + i)) x) 0 ≡ x
 
 -- what line t does

@@ -1,6 +1,6 @@
 -- Reading a set: the refusals 9, 10 and 11 line by line, the permutation that an accepted set performs, and the call.
 use Prim.Native.Nat.{ℕ, zero, suc, _+_, _*_, _/_, _%_}
-use mathlib.Core.Bool.{Bool, true, false}
+use mathlib.Core.Bool.{Bool, true}
 use mathlib.Core.List.{List}
 use lib.Dec.{leb, eqb}
 use lib.ListN.{length}
@@ -13,7 +13,6 @@ use Rattle.refusal.specs.declared.Refusal.the-variants.{ReadAddress, SpareLine,
 use Rattle.tables.specs.Terms.{cycles}
 use Rattle.tables.specs.Format.{readAddress, writeAddress, openOf}
 use Rattle.tables.specs.Datapath.{target, carryStrays}
-use Rattle.tables.specs.declared.Shape.{Shape}
 use Rattle.tables.specs.declared.Opened.{Opened}
 use Rattle.tables.specs.declared.Opened.the-variants.{Set, Refused}
 use Rattle.tables.specs.declared.Reading.{Reading}

@@ -1,15 +1,16 @@
 -- Document 01, "The terms": the numbers that n and w determine.
 use Prim.Native.Nat.{ℕ, zero, suc, _+_, _*_, _/_, _%_, _^_, _<_, _≤_}
 use mathlib.Core.Path.{_≡_}
+use Rattle.limits.specs.Limits.{mostWords, mostWidth}
 use Rattle.laws.specs.Choice.{ifLe}
 use Rattle.network.specs.Network.{bitCount}
 
 -- n is 1 to 4,096, w is 1 to 64, and w divides n
 pub record Dims (n w : ℕ) : Type 0 where
   pub some : 0 < n
-  pub few : n ≤ 4096
+  pub few : n ≤ mostWords
   pub wide : 0 < w
-  pub narrow : w ≤ 64
+  pub narrow : w ≤ mostWidth
   pub even : n % w ≡ 0
 
 -- e, or the first number above it, up to e + k, whose power of two is at least x

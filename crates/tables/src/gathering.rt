@@ -1,7 +1,8 @@
 // Reading a set: one pass over its lines. The permutation is gathered in arrays of the call's own, and written after the last line.
 ghost use mathlib.Core.Path.{_≡_};
-ghost use Prim.Native.Nat.{ℕ, _+_, _*_, _<_, _≤_};
+ghost use Prim.Native.Nat.{_+_, _*_, _<_, _≤_};
 ghost use lib.ListN.{length, getD};
+ghost use Rattle.limits.specs.Limits.{mostWidth, mostSwitches};
 ghost use Rattle.laws.specs.Tabulate.{overwrite};
 ghost use Rattle.tables.specs.Terms.{Dims, cycles};
 ghost use Rattle.tables.specs.Format.{shapeOf};
@@ -13,13 +14,11 @@ use crate::Shape;
 use crate::lines::line_at;
 use crate::lines::spare_used;
 use crate::opening::open;
+use limits::MOST_SWITCHES;
+use limits::MOST_WIDTH;
+use limits::MOST_WORDS;
+use limits::NO_WORD;
 use refusal::Refusal;
-
-// Stands for no place and for no word.
-const NONE: u16 = 65535;
-
-// The most words of a frame.
-const MOST_WORDS: usize = 4096;
 
 pub enum Gathered {
     All,
@@ -28,7 +27,7 @@ pub enum Gathered {
 
 // Whether an address of a bank is outside the frame, or its word or place is marked.
 fn fault(addresses: &[u16], marks: &[u16], width: usize, cycles: usize) -> bool
-    requires { ⌜ (width ≤ length (now addresses)) × (width ≤ 64) × (cycles * width ≤ length (now marks)) ⌝ }
+    requires { ⌜ (width ≤ length (now addresses)) × (width ≤ mostWidth) × (cycles * width ≤ length (now marks)) ⌝ }
     ensures { λ r. ⌜ r ≡ faulty (now (addresses .entry)) (now (marks .entry)) width cycles ⌝ }
 {
     let mut b = 0;
@@ -37,7 +36,7 @@ fn fault(addresses: &[u16], marks: &[u16], width: usize, cycles: usize) -> bool
         if cycles <= address {
             return true;
         }
-        if marks[address * width + b] != NONE {
+        if marks[address * width + b] != NO_WORD {
             return true;
         }
         b += 1;
@@ -81,7 +80,7 @@ fn gather_line(
     writes: &mut [u16],
 ) -> Gathered
     requires { ⌜ (Dims (shape .words) (shape .width)) × (shape ≡ shapeOf (shape .words) (shape .width)) × (t < cycles (shape .words) (shape .width)) ⌝ }
-    requires { ⌜ (length (now setting) ≡ 321) × (length (now reads) ≡ 64) × (length (now standing) ≡ 64) × (length (now writes) ≡ 64) ⌝ }
+    requires { ⌜ (length (now setting) ≡ mostSwitches) × (length (now reads) ≡ mostWidth) × (length (now standing) ≡ mostWidth) × (length (now writes) ≡ mostWidth) ⌝ }
     requires { ⌜ Gather (shape .words) (shape .width) (now file) t (now places) (now words) ⌝ }
     ensures { λ r. ⌜ Gathers (shape .words) (shape .width) (now (file .entry)) t r (now (places .exit)) (now (words .exit)) ⌝ }
 {
@@ -106,10 +105,10 @@ pub fn gather(file: &[u8], shape: Shape, places: &mut [u16], words: &mut [u16]) 
     ensures { λ r. ⌜ GathersAll (shape .words) (shape .width) (now (file .entry)) r (now (places .exit)) (now (words .exit)) ⌝ }
 {
     let cycles = shape.cycles;
-    let mut setting = [0u8; 321];
-    let mut reads = [0u16; 64];
-    let mut standing = [0u8; 64];
-    let mut writes = [0u16; 64];
+    let mut setting = [0u8; MOST_SWITCHES];
+    let mut reads = [0u16; MOST_WIDTH];
+    let mut standing = [0u8; MOST_WIDTH];
+    let mut writes = [0u16; MOST_WIDTH];
     let mut t = 0;
     while t < cycles {
         let gathered = gather_line(
@@ -155,8 +154,8 @@ fn read_set(file: &[u8], shape: Shape, images: &mut [u16], scratch: &[u16]) -> R
     if scratch.len() < 2 * words {
         return Reading::Refused(Refusal::BufferShort);
     }
-    let mut place_of = [NONE; MOST_WORDS];
-    let mut word_of = [NONE; MOST_WORDS];
+    let mut place_of = [NO_WORD; MOST_WORDS];
+    let mut word_of = [NO_WORD; MOST_WORDS];
     match gather(file, shape, &mut place_of, &mut word_of) {
         Gathered::Refused(refusal) => Reading::Refused(refusal),
         Gathered::All => {

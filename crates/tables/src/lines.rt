@@ -3,16 +3,18 @@ ghost use mathlib.Core.Path.{_≡_};
 ghost use Prim.Native.Nat.{ℕ, _+_, _*_, _^_, _<_, _≤_};
 ghost use lib.Dec.{leb};
 ghost use lib.ListN.{length, getD};
+ghost use Rattle.limits.specs.Limits.{mostWidth, mostSwitches};
 ghost use Rattle.laws.specs.Any.{any};
 ghost use Rattle.network.specs.Calls.{Sized};
 ghost use Rattle.tables.specs.Terms.{Dims, cycles};
 ghost use Rattle.tables.specs.Format.{shapeOf};
 ghost use Rattle.tables.specs.Lines.{Addresses, Spread, Switches, Sources, Line, spareUsed};
 use crate::Shape;
+use limits::MOST_WIDTH;
 
 // The `count` addresses of `address` bits each that stand from bit `at` on.
 fn addresses(file: &[u8], at: usize, address: usize, count: usize, found: &mut [u16])
-    requires { ⌜ (address ≤ 16) × (count ≤ 64) × (at < 2 ^ 32) × (length (now found) ≡ 64) ⌝ }
+    requires { ⌜ (address ≤ 16) × (count ≤ mostWidth) × (at < 2 ^ 32) × (length (now found) ≡ mostWidth) ⌝ }
     ensures { λ _. ⌜ Addresses (now (file .entry)) at address count (now (found .exit)) ⌝ }
 {
     let mut b = 0;
@@ -36,7 +38,7 @@ fn spread(number: u16, count: usize, found: &mut [u8], from: usize)
 
 // The `count` switch bits that stand from bit `at` on, taken 16 at a time.
 fn switches(file: &[u8], at: usize, count: usize, found: &mut [u8])
-    requires { ⌜ (count ≤ 321) × (at < 2 ^ 32) × (length (now found) ≡ 321) ⌝ }
+    requires { ⌜ (count ≤ mostSwitches) × (at < 2 ^ 32) × (length (now found) ≡ mostSwitches) ⌝ }
     ensures { λ _. ⌜ Switches (now (file .entry)) at count (now (found .exit)) ⌝ }
 {
     let mut i = 0;
@@ -50,8 +52,8 @@ fn switches(file: &[u8], at: usize, count: usize, found: &mut [u8])
 
 // Each of the first `lines` lines gets its own number.
 fn number(standing: &mut [u8], lines: usize)
-    requires { ⌜ (lines ≤ 64) × (length (now standing) ≡ 64) ⌝ }
-    ensures { λ _. ⌜ (length (now (standing .exit)) ≡ 64) × ((x : ℕ) → x < lines → getD (now (standing .exit)) x 0 ≡ x) ⌝ }
+    requires { ⌜ (lines ≤ mostWidth) × (length (now standing) ≡ mostWidth) ⌝ }
+    ensures { λ _. ⌜ (length (now (standing .exit)) ≡ mostWidth) × ((x : ℕ) → x < lines → getD (now (standing .exit)) x 0 ≡ x) ⌝ }
 {
     let mut x = 0;
     while x < lines {
@@ -71,8 +73,8 @@ fn sources(
     standing: &mut [u8],
 )
     requires { ⌜ ((d : ℕ) × Sized lines count d) ⌝ }
-    requires { ⌜ (lines ≤ 64) × (count ≤ 321) × (at < 2 ^ 32) × (length (now setting) ≡ 321) × (length (now standing) ≡ 64) ⌝ }
-    ensures { λ _. ⌜ (length (now (setting .exit)) ≡ 321) × ((d : ℕ) → Sized lines count d → Sources d (now (file .entry)) at (now (standing .exit))) ⌝ }
+    requires { ⌜ (lines ≤ mostWidth) × (count ≤ mostSwitches) × (at < 2 ^ 32) × (length (now setting) ≡ mostSwitches) × (length (now standing) ≡ mostWidth) ⌝ }
+    ensures { λ _. ⌜ (length (now (setting .exit)) ≡ mostSwitches) × ((d : ℕ) → Sized lines count d → Sources d (now (file .entry)) at (now (standing .exit))) ⌝ }
 {
     number(standing, lines);
     if count == 0 {
@@ -96,8 +98,8 @@ pub fn line_at(
 )
     requires { ⌜ (Dims (shape .words) (shape .width)) × (shape ≡ shapeOf (shape .words) (shape .width)) ⌝ }
     requires { ⌜ t < cycles (shape .words) (shape .width) ⌝ }
-    requires { ⌜ (length (now setting) ≡ 321) × (length (now reads) ≡ 64) × (length (now standing) ≡ 64) × (length (now writes) ≡ 64) ⌝ }
-    ensures { λ _. ⌜ (length (now (setting .exit)) ≡ 321) × Line (shape .words) (shape .width) (now (file .entry)) t (now (reads .exit)) (now (standing .exit)) (now (writes .exit)) ⌝ }
+    requires { ⌜ (length (now setting) ≡ mostSwitches) × (length (now reads) ≡ mostWidth) × (length (now standing) ≡ mostWidth) × (length (now writes) ≡ mostWidth) ⌝ }
+    ensures { λ _. ⌜ (length (now (setting .exit)) ≡ mostSwitches) × Line (shape .words) (shape .width) (now (file .entry)) t (now (reads .exit)) (now (standing .exit)) (now (writes .exit)) ⌝ }
 {
     let at = shape.start + t * shape.stride;
     let row = shape.width * shape.address;
@@ -120,11 +122,11 @@ pub fn line_at(
 }
 
 // Each of 64 lines with its own number. Only our own crates need it.
-pub fn numbered() -> [u8; 64]
-    ensures { λ r. ⌜ (length r ≡ 64) × ((x : ℕ) → x < 64 → getD r x 0 ≡ x) ⌝ }
+pub fn numbered() -> [u8; MOST_WIDTH]
+    ensures { λ r. ⌜ (length r ≡ mostWidth) × ((x : ℕ) → x < mostWidth → getD r x 0 ≡ x) ⌝ }
 {
-    let mut standing = [0u8; 64];
-    number(&mut standing, 64);
+    let mut standing = [0u8; MOST_WIDTH];
+    number(&mut standing, MOST_WIDTH);
     standing
 }
 

@@ -1,6 +1,6 @@
 // The form of a file: its header, its length and its filling bits.
 ghost use mathlib.Core.Path.{_≡_};
-ghost use Prim.Native.Nat.{_+_, _*_, _%_, _<_, _≤_};
+ghost use Prim.Native.Nat.{_+_, _*_, _%_, _<_};
 ghost use lib.ListN.{length};
 ghost use Rattle.tables.specs.Terms.{Dims, logUp, fileLength};
 ghost use mathlib.Core.Bool.{true};
@@ -11,12 +11,9 @@ ghost use Rattle.tables.specs.declared.Opened.{Opened};
 ghost use Rattle.tables.specs.declared.Opened.the-variants.{Refused};
 use crate::Opened;
 use crate::Shape;
+use limits::MOST_WIDTH;
+use limits::MOST_WORDS;
 use refusal::Refusal;
-
-// The most words of a frame and the most words of a cycle.
-const MOST_WORDS: usize = 4096;
-
-const MOST_WIDTH: usize = 64;
 
 // The bits of the header.
 const HEADER_BITS: usize = 24;

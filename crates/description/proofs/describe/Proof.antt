@@ -1,12 +1,11 @@
 -- `description::describe` meets its contract: what reading answers decides what is written, and an accepted file gives a permutation.
-use Prim.Native.Nat.{ℕ}
-use mathlib.Core.Path.{_≡_, refl, sym, ap, ap₂, _∙_}
-use mathlib.Core.List.{List}
+use mathlib.Core.Path.{refl, sym, ap, _∙_}
 use native.Mathlib.Omega.{arith}
 use borrow.Author.Needs.{needs}
 use lib.ListN.{length, replicate}
+use Rattle.limits.specs.Limits.{mostWords, textRoom}
 use Rattle.laws.proofs.Choices.{ifLt-yes}
-use Rattle.tables.specs.Reading.{Outcome, outcome, readOf}
+use Rattle.tables.specs.Reading.{outcome}
 use Rattle.tables.specs.declared.Reading.{Reading}
 use Rattle.tables.proofs.Form.{opened-dims}
 use Rattle.tables.proofs.Exact.{read-performs}
@@ -17,7 +16,7 @@ use Rattle.description.proofs.describe.Tie as tie
 
 returns : tie.Need-returns
 unfolding tellOf
-returns c = ifLt-yes _ 24000 _ _ _ (c .if1 .taken) refl
+returns c = ifLt-yes _ textRoom _ _ _ (c .if1 .taken) refl
 
 slice-aggregate-read : tie.Need-slice-aggregate-read
 slice-aggregate-read c = search needs
@@ -48,7 +47,7 @@ put-set-requires c κs =
     let s = c .before .before .before .before .before .before .before .before .before .before .before .before in
     let file = s .args .file .now in
     let q = sym (c .before .before .before .before .before .before .read .ensures) ∙ ap (λ (z : Reading). outcome z (c .before .before .before .before .before .before .read .last .1 .0)) (c .before .before .before .n .given .1) in
-    let known = read-performs file (replicate 4096 0) (replicate 8192 0) q in
+    let known = read-performs file (replicate mostWords 0) (replicate 8192 0) q in
     let D = opened-dims file (known .opened) .0 in
     ((D .few, D .wide, D .narrow, omega (arith, known .room, c .before .before .before .before .before .before .read .kept .1 .0), c .before .before .before .before .before .before .before .before .before .if1 .left), known .performs .permutes)
 

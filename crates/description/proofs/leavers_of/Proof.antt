@@ -4,6 +4,7 @@ use mathlib.Core.Path.{_≡_, refl}
 use native.Mathlib.Omega.{arith}
 use borrow.Author.Needs.{needs}
 use lib.ListN.{length-replicate}
+use Rattle.limits.specs.Limits.{mostWords}
 use Rattle.description.specs.Writing.{Inverted}
 use Rattle.description.proofs.Texts.{inverted-more}
 use Rattle.description.proofs.leavers_of.Statement.{statement}
@@ -16,7 +17,7 @@ abbrev μ-loop : tie.MeasureT-loop
 μ-loop images n words₀ i₀ words i = n - i
 
 loop-holds : tie.Need-loop-holds Inv-loop μ-loop
-loop-holds c = (omega arith, record { long = length-replicate {A = ℕ} 4096 0; filled = λ i l. absurd (omega arith) })
+loop-holds c = (omega arith, record { long = length-replicate {A = ℕ} mostWords 0; filled = λ i l. absurd (omega arith) })
 
 mul-place : tie.Need-mul-place Inv-loop μ-loop
 mul-place c = search needs

@@ -1,5 +1,4 @@
 -- `description::put_set` meets its contract: six texts, one behind the other, with the words by their places.
-use Prim.Native.Nat.{_<_}
 use native.Mathlib.Omega.{arith}
 use borrow.Author.Needs.{needs}
 use Rattle.description.specs.Description.{wordsText, widthText, setText}

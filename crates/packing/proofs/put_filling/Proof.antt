@@ -1,6 +1,4 @@
 -- `put_filling` meets its contract: the filling starts behind the last line, and ends with the file.
-use Prim.Native.Nat.{ℕ}
-use mathlib.Core.Path.{_≡_}
 use native.Mathlib.Omega.{arith}
 use Rattle.packing.proofs.Parts.{Ending, ending, filling-put}
 use lib.Pow.{pow-pos}

@@ -1,7 +1,4 @@
 -- `put_header` meets its contract: three fields, one behind the other.
-use mathlib.Core.Path.{_≡_, ap, _∙_}
-use mathlib.Core.List.{List}
-use Prim.Native.Nat.{ℕ}
 use Rattle.packing.proofs.Parts.{header-put}
 use borrow.Author.Needs.{needs}
 use Rattle.packing.proofs.put_header.Statement.{statement}

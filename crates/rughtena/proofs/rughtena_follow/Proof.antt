@@ -1,5 +1,5 @@
 -- `rughtena_follow` meets its contract: the core answers, and the answer is put into integers.
-use mathlib.Core.Path.{_≡_, refl, sym, ap, _∙_}
+use mathlib.Core.Path.{ap, _∙_}
 use borrow.Author.Needs.{needs}
 use Rattle.rughtena.specs.Answers.{lineAnswer}
 use Rattle.rughtena.proofs.rughtena_follow.Statement.{statement}

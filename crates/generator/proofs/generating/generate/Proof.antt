@@ -1,10 +1,9 @@
 -- `generating::generate` meets its contract: what the tests answer decides, and where they pass a set is made.
-use mathlib.Core.Path.{_≡_, refl, sym, _∙_}
-use native.Mathlib.Omega.{arith}
+use mathlib.Core.Path.{_≡_, sym, _∙_}
 use borrow.Author.Needs.{needs}
 use lib.ListN.{length}
 use Rattle.images.specs.declared.Checked.the-variants.{Permutation}
-use Rattle.generator.specs.Generating.{scratchNeed, checksOf}
+use Rattle.generator.specs.Generating.{checksOf}
 use Rattle.generator.proofs.Checking.{Passed, checks-passed, scratch-enough, generates-refused, generates-made}
 use Rattle.generator.proofs.generating.generate.Statement.{statement}
 use Rattle.generator.proofs.generating.generate.Tie as tie

@@ -6,6 +6,7 @@ use mathlib.Core.Path.{_≡_, refl, sym, ap, _∙_}
 use native.Mathlib.Omega.{arith}
 use borrow.Author.Needs.{needs}
 use lib.ListN.{length, getD, replicate, getD-replicate}
+use Rattle.limits.specs.Limits.{mostWidth, mostSwitches}
 use Rattle.bits.specs.Writing.{Open, placeOf, wholeOf}
 use Rattle.tables.specs.Terms.{cycles}
 use Rattle.tables.specs.Format.{lineAt}
@@ -19,11 +20,12 @@ use Rattle.generator.proofs.Taking.{scheduled-schedule}
 use Rattle.generator.proofs.Making.{making-more, plan-ready, held-long, lines-room, shape-start, shape-stride, shape-cycles}
 use Rattle.generator.proofs.generating.put_lines.Statement.{statement}
 use Rattle.generator.proofs.generating.put_lines.Tie as tie
+use Rattle.matching.specs.Matching.{unowned}
 
 abbrev Inv-loop : tie.InvT-loop
 Inv-loop images next heads₀ edges₀ shape file₀ owner₀ words₀ reads₀ forward₀ back₀ writes₀ switches₀ writer₀ t₀ heads edges file owner words reads forward back writes switches writer t =
     (t ≤ shape .cycles)
-    × ((length words ≡ 64) × Blank (shape .width) reads forward back writes × (length switches ≡ 321))
+    × ((length words ≡ mostWidth) × Blank (shape .width) reads forward back writes × (length switches ≡ mostSwitches))
     × (Open writer × (placeOf writer ≡ lineAt (shape .words) (shape .width) t))
     × ((lines : ℕ → ℕ → ℕ) × Scheduled (shape .words) (shape .width) (λ i. getD images i 0) lines t heads edges owner
     × Written (setBits (shape .words) (shape .width) (λ i. getD images i 0) lines) file₀ (wholeOf file writer) (lineAt (shape .words) (shape .width) t))
@@ -53,7 +55,7 @@ loop-holds c =
       omega arith,
       (refl, blank-numbered (s .args .shape .width) (c .before .before .before .numbered .ensures) (c .before .before .numbered2 .ensures), refl),
       (began .0, began .1 ∙ shape-start _ _ (s .pre .0 .1)),
-      (none, scheduled-start (replicate 64 64) none (s .pre .0 .0) (s .pre .0 .2) (s .pre .1 .1 .0 .0 .1) (s .pre .1 .1 .0 .1) refl (λ k l. getD-replicate {A = ℕ} 64 k 64 0 (omega (arith, s .pre .0 .0 .narrow))), rw (began .2) (s .pre .1 .1 .1 none)),
+      (none, scheduled-start (replicate mostWidth unowned) none (s .pre .0 .0) (s .pre .0 .2) (s .pre .1 .1 .0 .0 .1) (s .pre .1 .1 .0 .1) refl (λ k l. getD-replicate {A = ℕ} mostWidth k unowned 0 (omega (arith, s .pre .0 .0 .narrow))), rw (began .2) (s .pre .1 .1 .1 none)),
     )
 
 -- the next line can be taken

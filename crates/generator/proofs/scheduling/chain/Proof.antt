@@ -4,8 +4,9 @@ use mathlib.Core.Path.{_≡_, sym, ap, subst, _∙_}
 use native.Mathlib.Omega.{arith}
 use native.Mathlib.Nat.{mod-lt}
 use lib.ListN.{length, getD}
+use Rattle.limits.specs.Limits.{mostWidth}
 use Rattle.generator.proofs.Chains.{Chaining, chaining-none, chaining-more, chaining-all}
-use Rattle.generator.specs.Schedule.{Drawn}
+use Rattle.generator.specs.Schedule.{Drawn, headCount}
 use Rattle.generator.proofs.Drawings.{drawn-none, drawn-more}
 use borrow.Author.Needs.{needs}
 use Rattle.generator.proofs.scheduling.chain.Statement.{statement}
@@ -41,7 +42,7 @@ rem-port : tie.Need-rem-port Inv-loop μ-loop
 rem-port c = search needs
 
 -- the place of the head is one of the heads
-within : (c : tie.After-image Inv-loop μ-loop) → c .before .bank-before .result * 64 + c .image .result % c .before .before .before .before .before .before .args .w < 4096
+within : (c : tie.After-image Inv-loop μ-loop) → c .before .bank-before .result * mostWidth + c .image .result % c .before .before .before .before .before .before .args .w < headCount
 within c =
     let s = c .before .before .before .before .before .before in
     omega (arith, banked (c .before), mod-lt (c .before .before .before .loop .i - 1) (s .pre .0 .0 .wide), mod-lt (c .image .result) (s .pre .0 .0 .wide), s .pre .0 .0 .narrow)
@@ -77,8 +78,8 @@ join-requires : tie.Need-join-requires Inv-loop μ-loop
 join-requires c κs =
     let s = c .before .before .before .before .before .before .before in
     let l = c .before .before .before .before .loop in
-    let bank : c .before .before .bank-before .result < 64 = omega (arith, banked (c .before .before), mod-lt (l .i - 1) (s .pre .0 .0 .wide), s .pre .0 .0 .narrow) in
-    let port : c .before .image .result % s .args .w < 64 = omega (arith, mod-lt (c .before .image .result) (s .pre .0 .0 .wide), s .pre .0 .0 .narrow) in
+    let bank : c .before .before .bank-before .result < mostWidth = omega (arith, banked (c .before .before), mod-lt (l .i - 1) (s .pre .0 .0 .wide), s .pre .0 .0 .narrow) in
+    let port : c .before .image .result % s .args .w < mostWidth = omega (arith, mod-lt (c .before .image .result) (s .pre .0 .0 .wide), s .pre .0 .0 .narrow) in
     (l .inv .2 .long, omega (arith, bank, port), omega (arith, bank, port))
 
 loop-less : tie.Need-loop-less Inv-loop μ-loop
@@ -90,7 +91,7 @@ loop-again c =
     let l = c .before .before .before .before .before .loop in
     let e : l .i ≡ l .i - 1 + 1 = omega (arith, c .before .before .before .before .loop-test .taken) in
     let C = subst (λ (z : ℕ). Chaining (s .args .n) (s .args .w) (λ j. getD (s .args .images .now) j 0) (s .args .next .now) z (l .next) (l .heads)) e (l .inv .1) in
-    let inside : c .before .before .before .bank-before .result * 64 + c .before .before .image .result % s .args .w < length (l .heads) = omega (arith, within (c .before .before), l .inv .1 .headed .long) in (
+    let inside : c .before .before .before .bank-before .result * mostWidth + c .before .before .image .result % s .args .w < length (l .heads) = omega (arith, within (c .before .before), l .inv .1 .headed .long) in (
       banked (c .before .before .before),
       rw (banked (c .before .before .before), c .before .before .image .ensures .0) (chaining-more (s .pre .0 .0) (s .pre .0 .2) C),
       drawn-more (s .pre .0 .0 .narrow) (mod-lt (c .before .before .image .result) (s .pre .0 .0 .wide)) inside (λ q. omega (arith, l .inv .1 .upto, s .pre .0 .0 .few)) (l .inv .2) (c .join .ensures),

@@ -6,7 +6,7 @@ use mathlib.Core.List.{List}
 use native.Mathlib.Omega.{arith}
 use borrow.Author.Needs.{needs}
 use Rattle.tables.specs.Datapath.{readStrays, carryStrays, writeStrays, strays}
-use Rattle.tables.proofs.Dims.{cycles-positive, depth-reaches, lines-few}
+use Rattle.tables.proofs.Dims.{depth-reaches, lines-few}
 use Rattle.tables.proofs.Lined.{reads-stray, writes-stray, spare-strays, shape-cycles, shape-lines}
 use Rattle.machine.proofs.LineTests.{read-refused, carry-refused, write-refused, line-passed, none-stray}
 use Rattle.machine.proofs.stepping.step_line.Statement.{statement}

@@ -3,6 +3,7 @@ use Prim.Native.Nat.{ℕ, _-_, _≤_}
 use native.Mathlib.Omega.{arith}
 use borrow.Author.Needs.{needs}
 use lib.ListN.{length-replicate}
+use Rattle.limits.specs.Limits.{mostWidth}
 use Rattle.network.specs.Steps.{Inverting}
 use Rattle.network.proofs.Wires.{inverting-more}
 use Rattle.network.proofs.setting.invert.Statement.{statement}
@@ -15,7 +16,7 @@ abbrev μ-loop : tie.MeasureT-loop
 μ-loop forward width back₀ i₀ back i = width - i
 
 loop-holds : tie.Need-loop-holds Inv-loop μ-loop
-loop-holds c = (omega arith, record { long = length-replicate {A = ℕ} 64 0; filled = λ i l. absurd (omega arith) })
+loop-holds c = (omega arith, record { long = length-replicate {A = ℕ} mostWidth 0; filled = λ i l. absurd (omega arith) })
 
 cast-back : tie.Need-cast-back Inv-loop μ-loop
 cast-back c = search needs

@@ -4,18 +4,19 @@ use mathlib.Core.Path.{refl}
 use native.Mathlib.Omega.{arith}
 use borrow.Author.Needs.{needs}
 use lib.ListN.{getD, length-replicate}
+use Rattle.limits.specs.Limits.{mostWidth}
 use Rattle.laws.proofs.Tabulates.{Filling, filling-more}
 use Rattle.network.proofs.setting.narrow.Statement.{statement}
 use Rattle.network.proofs.setting.narrow.Tie as tie
 
 abbrev Inv-loop : tie.InvT-loop
-Inv-loop images width forward₀ i₀ forward i = (i ≤ width) × Filling (λ x. getD images x 0) 64 i forward
+Inv-loop images width forward₀ i₀ forward i = (i ≤ width) × Filling (λ x. getD images x 0) mostWidth i forward
 
 abbrev μ-loop : tie.MeasureT-loop
 μ-loop images width forward₀ i₀ forward i = width - i
 
 loop-holds : tie.Need-loop-holds Inv-loop μ-loop
-loop-holds c = (omega arith, record { long = length-replicate {A = ℕ} 64 0; filled = λ i l. absurd (omega arith) })
+loop-holds c = (omega arith, record { long = length-replicate {A = ℕ} mostWidth 0; filled = λ i l. absurd (omega arith) })
 
 mul-forward : tie.Need-mul-forward Inv-loop μ-loop
 mul-forward c = search needs

@@ -1,5 +1,5 @@
 -- `network::setting::set` meets its contract: each return stands at its place in the chain of checks, and images that pass are set.
-use Prim.Native.Nat.{ℕ, _≤_, _<_}
+use Prim.Native.Nat.{ℕ, _≤_}
 use mathlib.Core.Path.{_≡_, refl, sym, ap, ap₂, _∙_}
 use mathlib.Core.List.{List, _++_}
 use native.Mathlib.Omega.{arith}
@@ -12,11 +12,11 @@ use Rattle.laws.proofs.Tabulates.{tabulate-getD}
 use Rattle.images.specs.Images.{checkOf}
 use Rattle.images.proofs.Exact.{check-permutes}
 use Rattle.images.specs.declared.Checked.{Checked}
-use Rattle.images.specs.declared.Checked.the-variants.{Permutation, Refused as Unfit}
+use Rattle.images.specs.declared.Checked.the-variants.{Permutation}
 use Rattle.network.specs.Network.{bitCount}
 use Rattle.network.specs.Setting.{setting}
-use Rattle.network.specs.Calls.{Outcome, outcome, depthOf, written, setOf}
-use Rattle.network.specs.declared.setting.Setting.the-variants.{Written, Refused}
+use Rattle.network.specs.Calls.{outcome, depthOf, written, setOf}
+use Rattle.network.specs.declared.setting.Setting.the-variants.{Written}
 use Rattle.network.proofs.Depths.{depth-width, depth-narrow}
 use Rattle.network.proofs.Performs.{length-setting}
 use Rattle.network.proofs.setting.set.Statement.{statement}

@@ -1,6 +1,5 @@
 -- `network::setting::start_of` meets its contract.
-use mathlib.Core.Path.{_≡_, refl, ap, _∙_}
-use native.Mathlib.Omega.{arith}
+use mathlib.Core.Path.{refl, ap, _∙_}
 use borrow.Author.Needs.{needs}
 use Prim.Native.Nat.{ℕ}
 use Rattle.laws.proofs.Choices.{ifEq-yes, ifEq-no}

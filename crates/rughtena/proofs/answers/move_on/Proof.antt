@@ -1,5 +1,5 @@
 -- `answers::move_on` meets its contract: the next clock is put, and after a refusal the numbers already are those of the clock.
-use mathlib.Core.Path.{sym, _∙_}
+use mathlib.Core.Path.{sym}
 use borrow.Author.Needs.{needs}
 use Rattle.machine.specs.Machine.{clockAfter}
 use Rattle.rughtena.proofs.Clocks.{clock-kept}

@@ -1,5 +1,5 @@
 -- `answers::of_generation` meets its contract: each case of the answer by itself.
-use mathlib.Core.Path.{_≡_, refl, sym, ap, _∙_}
+use mathlib.Core.Path.{refl, sym, ap, _∙_}
 use borrow.Author.Needs.{needs}
 use Rattle.rughtena.specs.Answers.{generationAnswer}
 use Rattle.rughtena.proofs.answers.of_generation.Statement.{statement}

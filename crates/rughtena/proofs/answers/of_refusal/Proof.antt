@@ -1,5 +1,5 @@
 -- `answers::of_refusal` meets its contract.
-use mathlib.Core.Path.{_≡_, refl, sym, ap, _∙_}
+use mathlib.Core.Path.{refl}
 use borrow.Author.Needs.{needs}
 use Rattle.rughtena.specs.Answers.{refusalAnswer}
 use Rattle.rughtena.proofs.answers.of_refusal.Statement.{statement}

@@ -1,5 +1,5 @@
 -- `answers::of_step` meets its contract: each case of the answer by itself.
-use mathlib.Core.Path.{refl, _∙_}
+use mathlib.Core.Path.{refl}
 use borrow.Author.Needs.{needs}
 use Rattle.rughtena.specs.Answers.{steppedAnswer}
 use Rattle.rughtena.proofs.answers.of_step.Statement.{statement}

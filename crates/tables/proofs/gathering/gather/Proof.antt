@@ -5,6 +5,7 @@ use mathlib.Core.Path.{_≡_, subst, sym, _∙_}
 use native.Mathlib.Omega.{arith}
 use borrow.Author.Needs.{needs}
 use lib.ListN.{length, length-replicate}
+use Rattle.limits.specs.Limits.{mostWidth, mostSwitches}
 use Rattle.tables.specs.Gathering.{Gathers}
 use Rattle.tables.specs.declared.gathering.Gathered.{Gathered}
 use Rattle.tables.proofs.Lined.{shape-cycles}
@@ -15,13 +16,13 @@ use Rattle.tables.proofs.gathering.gather.Tie as tie
 abbrev Inv-loop : tie.InvT-loop
 Inv-loop file shape places₀ words₀ cycles setting₀ reads₀ standing₀ writes₀ t₀ places words setting reads standing writes t =
     Gathering (shape .words) (shape .width) file t places words
-    × (length setting ≡ 321) × (length reads ≡ 64) × (length standing ≡ 64) × (length writes ≡ 64)
+    × (length setting ≡ mostSwitches) × (length reads ≡ mostWidth) × (length standing ≡ mostWidth) × (length writes ≡ mostWidth)
 
 abbrev μ-loop : tie.MeasureT-loop
 μ-loop file shape places₀ words₀ cycles setting₀ reads₀ standing₀ writes₀ t₀ places words setting reads standing writes t = cycles - t
 
 loop-holds : tie.Need-loop-holds Inv-loop μ-loop
-loop-holds c = (gathering-none (c .before .before .before .pre .1), length-replicate {A = ℕ} 321 0, length-replicate {A = ℕ} 64 0, length-replicate {A = ℕ} 64 0, length-replicate {A = ℕ} 64 0)
+loop-holds c = (gathering-none (c .before .before .before .pre .1), length-replicate {A = ℕ} mostSwitches 0, length-replicate {A = ℕ} mostWidth 0, length-replicate {A = ℕ} mostWidth 0, length-replicate {A = ℕ} mostWidth 0)
 
 slice-aggregate-gather-line : tie.Need-slice-aggregate-gather-line Inv-loop μ-loop
 slice-aggregate-gather-line c = sym (c .before .before .before .before .loop .inv .1)

@@ -1,11 +1,8 @@
 -- `tables::gathering::read` meets its contract: the file has no form of a set, or the set is read.
-use mathlib.Core.Path.{_≡_, refl, sym, ap, subst, _∙_}
-use native.Mathlib.Omega.{arith}
+use mathlib.Core.Path.{sym, ap, _∙_}
 use borrow.Author.Needs.{needs}
-use Rattle.tables.specs.Format.{openOf}
-use Rattle.tables.specs.Reading.{Outcome, readOpened, readOf}
+use Rattle.tables.specs.Reading.{readOpened, readOf}
 use Rattle.tables.specs.declared.Opened.{Opened}
-use Rattle.tables.specs.declared.Opened.the-variants.{Set, Refused}
 use Rattle.tables.proofs.Form.{opened-shape}
 use Rattle.tables.proofs.gathering.read.Statement.{statement}
 use Rattle.tables.proofs.gathering.read.Tie as tie

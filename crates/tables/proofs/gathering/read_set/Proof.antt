@@ -1,15 +1,13 @@
 -- `tables::gathering::read_set` meets its contract: each return stands at its place in the definition, and what was gathered are the images.
 use Prim.Native.Nat.{ℕ}
-use mathlib.Core.Path.{_≡_, refl, sym, ap, subst, _∙_}
+use mathlib.Core.Path.{refl, sym, ap, subst, _∙_}
 use mathlib.Core.List.{List}
-use native.Mathlib.Omega.{arith}
 use borrow.Author.Needs.{needs}
-use lib.ListN.{length, getD}
+use lib.ListN.{length}
 use Rattle.laws.specs.Tabulate.{overwrite}
 use Rattle.laws.proofs.Choices.{ifLt-yes, ifLt-no}
 use Rattle.laws.proofs.Tabulates.{overwrite-ext}
-use Rattle.refusal.specs.declared.Refusal.{Refusal}
-use Rattle.tables.specs.Reading.{Outcome, outcome, imageOf, readLines}
+use Rattle.tables.specs.Reading.{outcome, imageOf, readLines}
 use Rattle.tables.specs.Gathering.{Gather, GathersAll}
 use Rattle.tables.specs.declared.Reading.the-variants.{Read, Refused}
 use Rattle.tables.specs.declared.gathering.Gathered.{Gathered}

@@ -4,13 +4,14 @@ use mathlib.Core.Path.{sym, _∙_}
 use native.Mathlib.Nat.{mul-le-mul}
 use native.Mathlib.Omega.{arith}
 use borrow.Author.Needs.{needs}
+use Rattle.limits.specs.Limits.{mostWidth}
 use Rattle.laws.proofs.Tabulates.{Filling, filling-more}
 use Rattle.bits.specs.Bits.{field}
 use Rattle.tables.proofs.lines.addresses.Statement.{statement}
 use Rattle.tables.proofs.lines.addresses.Tie as tie
 
 abbrev Inv-loop : tie.InvT-loop
-Inv-loop file at address count found₀ b₀ found b = (b ≤ count) × Filling (λ i. field file (at + i * address) address) 64 b found
+Inv-loop file at address count found₀ b₀ found b = (b ≤ count) × Filling (λ i. field file (at + i * address) address) mostWidth b found
 
 abbrev μ-loop : tie.MeasureT-loop
 μ-loop file at address count found₀ b₀ found b = count - b
@@ -21,12 +22,12 @@ loop-holds c = (omega arith, record { long = c .before .before .pre .3; filled =
 mul-field-at : tie.Need-mul-field-at Inv-loop μ-loop
 mul-field-at c =
     let s = c .before .before .before .before in
-    omega (arith, mul-le-mul {n₁ = c .before .loop .b} {n₂ = 64} (omega arith) (s .pre .0))
+    omega (arith, mul-le-mul {n₁ = c .before .loop .b} {n₂ = mostWidth} (omega arith) (s .pre .0))
 
 add-field-at : tie.Need-add-field-at Inv-loop μ-loop
 add-field-at c =
     let s = c .before .before .before .before in
-    omega (arith, mul-le-mul {n₁ = c .before .loop .b} {n₂ = 64} (omega arith) (s .pre .0))
+    omega (arith, mul-le-mul {n₁ = c .before .loop .b} {n₂ = mostWidth} (omega arith) (s .pre .0))
 
 field-at-requires : tie.Need-field-at-requires Inv-loop μ-loop
 field-at-requires c κs = search needs

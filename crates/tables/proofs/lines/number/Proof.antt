@@ -3,12 +3,13 @@ use Prim.Native.Nat.{_-_, _≤_}
 use mathlib.Core.Path.{refl, sym, _∙_}
 use native.Mathlib.Omega.{arith}
 use borrow.Author.Needs.{needs}
+use Rattle.limits.specs.Limits.{mostWidth}
 use Rattle.laws.proofs.Tabulates.{Filling, filling-more}
 use Rattle.tables.proofs.lines.number.Statement.{statement}
 use Rattle.tables.proofs.lines.number.Tie as tie
 
 abbrev Inv-loop : tie.InvT-loop
-Inv-loop standing₀ lines x₀ standing x = (x ≤ lines) × Filling (λ i. i) 64 x standing
+Inv-loop standing₀ lines x₀ standing x = (x ≤ lines) × Filling (λ i. i) mostWidth x standing
 
 abbrev μ-loop : tie.MeasureT-loop
 μ-loop standing₀ lines x₀ standing x = lines - x

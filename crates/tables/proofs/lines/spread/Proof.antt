@@ -1,5 +1,5 @@
 -- `lines::spread` meets its contract: turn j puts digit j.
-use Prim.Native.Nat.{suc, _+_, _-_, _^_, _≤_}
+use Prim.Native.Nat.{suc, _-_, _≤_}
 use mathlib.Core.Path.{_≡_, refl}
 use native.Mathlib.Omega.{arith}
 use borrow.Author.Needs.{needs}

@@ -1,8 +1,9 @@
 -- `lines::switches` meets its contract: each turn puts 16 bits behind those that are there, and the rest comes last.
-use Prim.Native.Nat.{ℕ, _+_, _-_, _≤_}
-use mathlib.Core.Path.{_≡_, sym, _∙_}
+use Prim.Native.Nat.{_+_, _-_, _≤_}
+use mathlib.Core.Path.{sym, _∙_}
 use native.Mathlib.Omega.{arith}
 use borrow.Author.Needs.{needs}
+use Rattle.limits.specs.Limits.{mostSwitches}
 use Rattle.laws.proofs.Tabulates.{Filling}
 use Rattle.bits.specs.Bits.{bit}
 use Rattle.tables.proofs.Scans.{filling-spread}
@@ -10,7 +11,7 @@ use Rattle.tables.proofs.lines.switches.Statement.{statement}
 use Rattle.tables.proofs.lines.switches.Tie as tie
 
 abbrev Inv-loop : tie.InvT-loop
-Inv-loop file at count found₀ i₀ found i = (i ≤ count) × Filling (λ j. bit file (at + j)) 321 i found
+Inv-loop file at count found₀ i₀ found i = (i ≤ count) × Filling (λ j. bit file (at + j)) mostSwitches i found
 
 abbrev μ-loop : tie.MeasureT-loop
 μ-loop file at count found₀ i₀ found i = count - i
