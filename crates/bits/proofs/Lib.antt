@@ -6,3 +6,4 @@ pub mod Window
 pub mod Stores
 pub mod Weights
 pub mod Walking
+pub mod Packed

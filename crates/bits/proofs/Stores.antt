@@ -13,8 +13,7 @@ use lib.Pow.{pow-pos, pow-add, pow-mono, shr-lt}
 use lib.Seq.{getD-set-same, getD-set-other}
 use Rattle.bits.specs.Bits.{Bytes, digit, bit, putBit, putField}
 use Rattle.bits.proofs.Digits.{digit-div}
-use Rattle.bits.proofs.Fields.{bit-byte, bits-ext, set-bytes, length-putField, putField-bytes}
-use Rattle.bits.proofs.Fields.{bit-putField-inside, bit-putField-outside}
+use Rattle.bits.proofs.Fields.{bit-byte, bits-ext, set-bytes, length-putField, putField-bytes, bit-putField-inside, bit-putField-outside}
 
 -- A field of u + w bits is a field of u and, behind it, one of w.
 pub putField-append : (xs : List ℕ) (at u w hi lo : ℕ) → lo < 2 ^ w

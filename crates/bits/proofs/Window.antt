@@ -10,11 +10,9 @@ use native.Mathlib.Omega.{arith}
 use lib.ListN.{length, getD, set, length-set}
 use lib.Seq.{getD-set-same, getD-set-other}
 use Rattle.bits.specs.Bits.{Bytes, digit, withDigits, bit, field, putField}
-use Rattle.bits.specs.Window.{windowOf, putWindow}
-use Rattle.bits.proofs.Digits.{digit-div, digit-mod, digit-high, digit-low, digit-withDigits-inside}
-use Rattle.bits.proofs.Digits.{digit-withDigits-below, digit-withDigits-above, withDigits-lt}
-use Rattle.bits.proofs.Fields.{bit-byte, bits-ext, set-bytes, field-digits, length-putField, putField-bytes}
-use Rattle.bits.proofs.Fields.{bit-putField-inside, bit-putField-outside}
+use Rattle.bits.specs.inner.Window.{windowOf, putWindow}
+use Rattle.bits.proofs.Digits.{digit-div, digit-mod, digit-high, digit-low, digit-withDigits-inside, digit-withDigits-below, digit-withDigits-above, withDigits-lt}
+use Rattle.bits.proofs.Fields.{bit-byte, bits-ext, set-bytes, field-digits, length-putField, putField-bytes, bit-putField-inside, bit-putField-outside}
 
 -- ---- the window is read
 

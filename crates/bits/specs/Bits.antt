@@ -2,7 +2,8 @@
 -- bit 8 the highest of byte 1.
 use Prim.Native.Nat.{ℕ, zero, suc, _+_, _-_, _*_, _/_, _%_, _^_, _<_}
 use mathlib.Core.List.{List}
-use lib.ListN.{getD, set}
+use lib.ListN.{length, getD, set}
+use Rattle.laws.specs.Tabulate.{tabulate}
 
 -- Every element is below 256.
 pub record Bytes (xs : List ℕ) : Type 0 where
@@ -22,6 +23,21 @@ bit xs i = digit (getD xs (i / 8) 0) (7 - i % 8)
 unfoldable pub field : List ℕ → ℕ → ℕ → ℕ
 field xs at zero = 0
 field xs at (suc w) = field xs at w * 2 + bit xs (at + w)
+
+-- ---- lists of bits
+
+-- The k binary digits of x, the highest first.
+unfoldable pub digits : ℕ → ℕ → List ℕ
+digits k x = tabulate k (λ i. digit x (k - suc i))
+
+-- The number that the k bits from bit `at` write. A bit past the end is 0.
+unfoldable pub numberAt : List ℕ → ℕ → ℕ → ℕ
+numberAt bits at zero = 0
+numberAt bits at (suc k) = numberAt bits at k * 2 + getD bits (at + k) 0
+
+-- Bits as whole bytes, with zeros up to the end of the last.
+unfoldable pub packed : List ℕ → List ℕ
+packed bits = tabulate ((length bits + 7) / 8) (λ j. numberAt bits (8 * j) 8)
 
 -- ---- put
 

@@ -2,5 +2,4 @@
 -- functions work on.
 pub mod Bits
 pub mod Reading
-pub mod Window
-pub mod Writing
+pub mod inner

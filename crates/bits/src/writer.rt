@@ -4,7 +4,7 @@ ghost use mathlib.Core.Path.{_≡_};
 ghost use Prim.Native.Nat.{_+_, _*_, _^_, _<_, _≤_};
 ghost use lib.ListN.{length};
 ghost use Rattle.bits.specs.Bits.{Bytes, putField};
-ghost use Rattle.bits.specs.Writing.{Open, placeOf, wholeOf};
+ghost use Rattle.bits.specs.inner.Writing.{Open, positionOf, wholeOf};
 use crate::byte_at;
 use crate::put_field;
 
@@ -20,7 +20,7 @@ pub struct Writer {
 // A writer whose next bit is bit `at`.
 pub fn writer_at(bytes: &[u8], at: usize) -> Writer
     requires { ⌜ at ≤ 8 * length (now bytes) ⌝ }
-    ensures { λ r. ⌜ Open r × (placeOf r ≡ at) × (wholeOf (now (bytes .entry)) r ≡ now (bytes .entry)) ⌝ }
+    ensures { λ r. ⌜ Open r × (positionOf r ≡ at) × (wholeOf (now (bytes .entry)) r ≡ now (bytes .entry)) ⌝ }
 {
     let first = at / 8;
     let held = at % 8;
@@ -34,8 +34,8 @@ pub fn writer_at(bytes: &[u8], at: usize) -> Writer
 // Puts the `width` bits of `value` next. Only full bytes are stored.
 pub fn write(bytes: &mut [u8], writer: Writer, width: usize, value: u16) -> Writer
     requires { ⌜ (width ≤ 16) × (value < 2 ^ width) ⌝ }
-    requires { ⌜ Open writer × (placeOf writer + width ≤ 8 * length (now bytes)) × Bytes (now bytes) ⌝ }
-    ensures { λ r. ⌜ Open r × (placeOf r ≡ placeOf writer + width) × (wholeOf (now (bytes .exit)) r ≡ putField (wholeOf (now (bytes .entry)) writer) (placeOf writer) width value) ⌝ }
+    requires { ⌜ Open writer × (positionOf writer + width ≤ 8 * length (now bytes)) × Bytes (now bytes) ⌝ }
+    ensures { λ r. ⌜ Open r × (positionOf r ≡ positionOf writer + width) × (wholeOf (now (bytes .exit)) r ≡ putField (wholeOf (now (bytes .entry)) writer) (positionOf writer) width value) ⌝ }
 {
     let mut first = writer.first;
     let mut held = writer.held + width;
@@ -55,7 +55,7 @@ pub fn write(bytes: &mut [u8], writer: Writer, width: usize, value: u16) -> Writ
 
 // Stores what is held.
 pub fn finish(bytes: &mut [u8], writer: Writer)
-    requires { ⌜ Open writer × (placeOf writer ≤ 8 * length (now bytes)) × (placeOf writer < 2 ^ 64) ⌝ }
+    requires { ⌜ Open writer × (positionOf writer ≤ 8 * length (now bytes)) × (positionOf writer < 2 ^ 64) ⌝ }
     ensures { λ _. ⌜ now (bytes .exit) ≡ wholeOf (now (bytes .entry)) writer ⌝ }
 {
     if 0 < writer.held {

@@ -17,9 +17,9 @@ use Rattle.laws.proofs.Permutations.{inverse-unique, inverse-below}
 use Rattle.refusal.specs.Refusals.{numberOf}
 use Rattle.refusal.specs.declared.Refusal.{Refusal}
 use Rattle.refusal.specs.declared.Refusal.the-variants.{FrameSize, Width, Uneven, OutOfRange, Repeated, FileShort, Header, FileLong, ReadAddress, SpareLine, WriteAddress, BufferShort, WordCount, ClockRange, SwitchValue}
-use Rattle.tables.specs.Generated.{joined}
+use Rattle.laws.specs.Tabulate.{joined}
 use Rattle.description.specs.Description.{figure, decimal, separator, leavers, descriptionOf, told, tellOf}
-use Rattle.description.specs.Writing.{Wrote, Inverted}
+use Rattle.description.specs.inner.Writing.{Wrote, Inverted}
 
 -- two texts, one behind the other
 sets-append : (xs ys l : List ℕ) (i : ℕ) → sets (sets l i xs) (i + length xs) ys ≡ sets l i (xs ++ ys)

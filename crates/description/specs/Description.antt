@@ -1,14 +1,15 @@
 -- The text that tells what a table set does (document 01, "Examples on each side"), as character codes.
 use Prim.Native.Nat.{ℕ, _+_, _/_, _%_}
 use mathlib.Core.List.{List, [], _∷_, _++_}
-use lib.ListN.{length, getD, replicate}
+use lib.ListN.{length, replicate}
 use lib.Seq.{sets}
 use Rattle.limits.specs.Limits.{mostWords, textRoom}
 use Rattle.laws.specs.Choice.{ifLt, ifEq}
 use Rattle.laws.specs.Permutation.{inverse}
 use Rattle.refusal.specs.Refusals.{numberOf}
+use Rattle.images.specs.Images.{orderOf}
 use Rattle.tables.specs.Reading.{Outcome, outcome, readOf}
-use Rattle.tables.specs.Generated.{joined}
+use Rattle.laws.specs.Tabulate.{joined}
 use Rattle.tables.specs.declared.Reading.the-variants.{Read, Refused}
 
 -- the decimal digit of x
@@ -43,7 +44,7 @@ leavers n w word k = joined k (λ j. decimal (word j) ++ (separator w j ∷ []))
 -- a set of n words and width w, and a refusal's number
 unfoldable pub setText : ℕ → ℕ → List ℕ → List ℕ
 setText n w images =
-    wordsText ++ (decimal n ++ (widthText ++ (decimal w ++ (10 ∷ leavers n w (inverse n (λ i. getD images i 0)) n))))
+    wordsText ++ (decimal n ++ (widthText ++ (decimal w ++ (10 ∷ leavers n w (inverse n (orderOf n images)) n))))
 
 unfoldable pub refusalText : ℕ → List ℕ
 refusalText number = refusedText ++ (decimal number ++ (10 ∷ []))

@@ -1,2 +1,2 @@
 pub mod Description
-pub mod Writing
+pub mod inner

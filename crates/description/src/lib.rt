@@ -5,7 +5,7 @@ ghost use lib.ListN.{length, getD};
 ghost use Rattle.limits.specs.Limits.{mostWords, mostWidth, textRoom};
 ghost use Rattle.laws.specs.Permutation.{Permutes};
 ghost use Rattle.description.specs.Description.{decimal, separator, leavers, setText, refusalText, told, tellOf};
-ghost use Rattle.description.specs.Writing.{Wrote, Inverted};
+ghost use Rattle.description.specs.inner.Writing.{Wrote, Inverted};
 use limits::MOST_WORDS;
 use limits::TEXT_ROOM;
 use tables::Reading;

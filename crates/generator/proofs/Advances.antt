@@ -10,7 +10,7 @@ use lib.ListN.{length, getD, set, length-set}
 use lib.Seq.{getD-set-same, getD-set-other}
 use Rattle.limits.specs.Limits.{mostWidth, noWord}
 use Rattle.matching.specs.Graph.{Edge}
-use Rattle.generator.specs.Schedule.{headAt, Advanced, Takeable, Takes}
+use Rattle.generator.specs.inner.Schedule.{headAt, Advanced, Takeable, Takes}
 use Rattle.generator.proofs.Heads.{head-here, head-other}
 use Rattle.matching.specs.Matching.{unowned}
 

@@ -10,7 +10,7 @@ use lib.ListN.{length, getD, set, length-set, replicate, getD-replicate, length-
 use lib.Seq.{getD-set-same, getD-set-other}
 use Rattle.limits.specs.Limits.{mostWidth, noWord}
 use Rattle.tables.specs.Terms.{Dims}
-use Rattle.generator.specs.Schedule.{headAt, Alike, Headed, Linked, headCount}
+use Rattle.generator.specs.inner.Schedule.{headAt, Alike, Headed, Linked, headCount}
 use Rattle.generator.proofs.Heads.{head-here, head-cases}
 
 -- the remainder of the number before: one less, and from 0 the highest

@@ -1,19 +1,20 @@
 -- What the tests before the first written word let through: n and w keep their limits, enough is lent, and the images are a permutation.
-use Prim.Native.Nat.{ℕ, _%_, _≤_}
+use Prim.Native.Nat.{ℕ, _≤_}
 use mathlib.Core.Path.{_≡_, sym, ap, _∙_}
 use mathlib.Core.List.{List}
 use native.Mathlib.Omega.{arith}
-use lib.ListN.{length, getD}
-use Rattle.limits.specs.Limits.{mostWords, mostWidth}
-use Rattle.laws.specs.Choice.{ifLt, ifEq}
+use lib.ListN.{length}
+use Rattle.laws.specs.Choice.{ifLt}
 use Rattle.laws.specs.Permutation.{Permutes}
-use Rattle.laws.proofs.Choices.{ifLt-no, ifLt-cases, ifEq-yes, ifEq-cases}
+use Rattle.laws.proofs.Choices.{ifLt-no, ifLt-cases}
 use Rattle.refusal.specs.declared.Refusal.{Refusal}
+use Rattle.images.specs.Images.{orderOf}
 use Rattle.images.specs.declared.Checked.{Checked}
 use Rattle.images.specs.declared.Checked.the-variants.{Permutation, Refused}
 use Rattle.images.proofs.Exact.{not-refused, check-permutes, permutes-check}
 use Rattle.tables.specs.Terms.{Dims, fileLength}
-use Rattle.generator.specs.Generating.{scratchNeed, checksOf, outcome, Filled, Generates}
+use Rattle.tables.proofs.LimitTests.{limit-cases, limit-passes}
+use Rattle.generator.specs.Generating.{scratchNeed, lentTest, checksOf, outcome, Filled, Generates}
 use Rattle.generator.specs.declared.Generation.the-variants.{Written, Refused as Unmade}
 
 -- n and w keep their limits, enough memory is lent, and the images are a permutation
@@ -22,7 +23,7 @@ pub record Passed (n w : ℕ) (images : List ℕ) (room scratch : ℕ) : Type 0 
   pub listed : n ≤ length images
   pub roomy : fileLength n w ≤ room
   pub spacious : scratchNeed n ≤ scratch
-  pub permutes : Permutes n (λ i. getD images i 0)
+  pub permutes : Permutes n (orderOf n images)
 
 module _ (n w : ℕ) (images : List ℕ) (room scratch : ℕ) where
   -- what follows from a test that passes
@@ -34,34 +35,22 @@ module _ (n w : ℕ) (images : List ℕ) (room scratch : ℕ) where
   turned r e = absurd (not-refused r e)
 
   pub checks-passed : checksOf n w images room scratch ≡ Permutation → Passed n w images room scratch
-  unfolding checksOf Leads
+  unfolding checksOf lentTest Leads
   checks-passed =
-      ifLt-cases Leads n 1 _ _ (λ _. turned _) λ some.
-      ifLt-cases Leads mostWords n _ _ (λ _. turned _) λ few.
-      ifLt-cases Leads w 1 _ _ (λ _. turned _) λ wide.
-      ifLt-cases Leads mostWidth w _ _ (λ _. turned _) λ narrow.
-      ifEq-cases Leads (n % w) 0 _ _
-      (λ even.
+      limit-cases Leads n w Refused _ turned λ dims.
       ifLt-cases Leads (length images) n _ _ (λ _. turned _) λ listed.
       ifLt-cases Leads room (fileLength n w) _ _ (λ _. turned _) λ roomy.
-      ifLt-cases Leads scratch (scratchNeed n) _ _ (λ _. turned _) λ spacious e. record {
-        dims = record { some = some; few = few; wide = wide; narrow = narrow; even = even };
-        listed = listed;
-        roomy = roomy;
-        spacious = spacious;
-        permutes = check-permutes images n e;
-      })
-      (λ _. turned _)
+      ifLt-cases Leads scratch (scratchNeed n) _ _ (λ _. turned _) λ spacious e.
+      record { dims = dims; listed = listed; roomy = roomy; spacious = spacious; permutes = check-permutes images n e }
 
 -- and nothing else is turned down
 pub passed-checks : {n w : ℕ} {images : List ℕ} {room scratch : ℕ} → Passed n w images room scratch
     → checksOf n w images room scratch ≡ Permutation
-unfolding checksOf
+unfolding checksOf lentTest
 passed-checks {n} {w} {images} K =
-    let d = K .dims in
-    sym (ifLt-no _ _ _ _ _ (d .some) (ifLt-no _ _ _ _ _ (d .few) (ifLt-no _ _ _ _ _ (d .wide) (ifLt-no _ _ _ _ _ (d .narrow)
-    (ifEq-yes _ _ _ _ _ (d .even) (ifLt-no _ _ _ _ _ (K .listed) (ifLt-no _ _ _ _ _ (K .roomy) (ifLt-no _ _ _ _ _ (K .spacious)
-    (sym (permutes-check images n (K .permutes)))))))))))
+    limit-passes Refused _ (K .dims)
+    ∙ sym (ifLt-no _ _ _ _ _ (K .listed) (ifLt-no _ _ _ _ _ (K .roomy) (ifLt-no _ _ _ _ _ (K .spacious)
+    (sym (permutes-check images n (K .permutes))))))
 
 pub scratch-enough : {n w : ℕ} {images : List ℕ} {room scratch : ℕ} → Passed n w images room scratch → n ≤ scratch
 unfolding scratchNeed

@@ -16,7 +16,7 @@ use Rattle.laws.proofs.Sums.{is-eq, is-ne, sum-ext, sum-mul, sum-append, sum-sw
 use Rattle.laws.proofs.Permutations.{sum-permuted}
 use Rattle.tables.specs.Terms.{Dims, cycles}
 use Rattle.tables.proofs.Dims.{cycles-mul}
-use Rattle.generator.specs.Schedule.{headAt, Chained, Headed, left}
+use Rattle.generator.specs.inner.Schedule.{headAt, Chained, Headed, left}
 
 is-sym : (a b : ℕ) → is a b ≡ is b a
 is-sym a b = elim (ℕ-discrete a b) [ yes e ↦ is-eq a b e ∙ sym (is-eq b a (sym e)) | no ne ↦ is-ne a b ne ∙ sym (is-ne b a (λ e. ne (sym e))) ]

@@ -13,7 +13,7 @@ use Rattle.matching.specs.Graph.{Edge, Joined}
 use Rattle.matching.proofs.Graphs.{edge-none}
 use Rattle.matching.proofs.Matchings.{matches-free}
 use Rattle.tables.specs.Terms.{Dims}
-use Rattle.generator.specs.Schedule.{headAt, Linked, Drawn, Scheduled, headCount}
+use Rattle.generator.specs.inner.Schedule.{headAt, Linked, Drawn, Scheduled, headCount}
 use Rattle.generator.proofs.Heads.{head-cases}
 use Rattle.generator.proofs.Counting.{first-banks, first-ports}
 use Rattle.matching.specs.Matching.{unowned}

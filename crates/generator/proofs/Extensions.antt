@@ -9,7 +9,7 @@ use Rattle.laws.specs.Permutation.{Permutes, inverse}
 use Rattle.laws.proofs.Choices.{ifEq-yes, ifEq-no}
 use Rattle.laws.proofs.Permutations.{onto, inverse-found, inverse-left}
 use Rattle.tables.specs.Generated.{wordOf, portOf}
-use Rattle.generator.specs.Schedule.{addressOf, extended, Took}
+use Rattle.generator.specs.inner.Schedule.{addressOf, extended, Took}
 
 module _ (reads : ℕ → ℕ → ℕ) (t : ℕ) (line : ℕ → ℕ) where
   pub extended-same : (s b : ℕ) → (s ≡ t → ⊥) → extended reads t line s b ≡ reads s b

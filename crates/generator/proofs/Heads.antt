@@ -7,7 +7,7 @@ use lib.Seq.{getD-set-same, getD-set-other}
 use native.Mathlib.Decide.{ℕ-discrete}
 use Rattle.limits.specs.Limits.{mostWidth}
 use Rattle.tables.proofs.Dims.{word-injective}
-use Rattle.generator.specs.Schedule.{headAt}
+use Rattle.generator.specs.inner.Schedule.{headAt}
 
 module _ (heads : List ℕ) (b k x : ℕ) (m : k < mostWidth) where
   pub head-other : (d j : ℕ) → j < mostWidth → (d ≡ b → j ≡ k → ⊥) → headAt (set heads (b * mostWidth + k) x) d j ≡ headAt heads d j

@@ -13,23 +13,26 @@ use Rattle.limits.specs.Limits.{mostWidth}
 use Rattle.laws.specs.Permutation.{Permutes}
 use Rattle.laws.proofs.Permutations.{permutes-ext}
 use Rattle.bits.specs.Bits.{Bytes}
-use Rattle.bits.specs.Writing.{wholeOf}
+use Rattle.bits.specs.inner.Writing.{wholeOf}
 use Rattle.bits.specs.declared.writer.Writer.{Writer}
 use Rattle.bits.proofs.Fields.{length-putField}
 use Rattle.network.specs.Carried.{carried}
 use Rattle.network.proofs.Carried.{carried-below, carried-above, carried-permutes}
 use Rattle.network.proofs.Fronts.{front-inverses}
-use Rattle.tables.specs.Terms.{Dims, cycles, depth, lineBits, headerBits, fileLength}
-use Rattle.tables.specs.Format.{lineAt, shapeOf}
-use Rattle.tables.specs.declared.Shape.{Shape}
+use Rattle.tables.specs.Header.{headerOf, headerBits}
+use Rattle.tables.specs.Terms.{Dims, cycles, depth, lineBits, fileLength}
+use Rattle.tables.specs.Format.{lineAt}
 use Rattle.tables.specs.Generated.{Schedule, wordOf, portOf, writeOf, setBits}
 use Rattle.tables.proofs.Dims.{address-below, depth-reaches, lines-few, fileLength-reaches}
 use Rattle.tables.proofs.Prefix.{setBits-prefix}
 use Rattle.tables.proofs.Written.{Written, written-ext, written-all}
-use Rattle.packing.specs.Packing.{Planned, Ready, putLine, putFilling}
-use Rattle.packing.proofs.Putting.{line-written, filling-written}
-use Rattle.generator.specs.Schedule.{Took, Linked, addressOf, extended}
-use Rattle.generator.specs.Generating.{Filled}
+use Rattle.packing.specs.Packing.{putLine, putFilling}
+use Rattle.packing.specs.inner.Plans.{Planned, Ready}
+use Rattle.packing.proofs.Putting.{header-written, line-written, filling-written}
+use Rattle.images.specs.Images.{orderOf}
+use Rattle.generator.proofs.Taking.{scheduled-schedule}
+use Rattle.generator.specs.inner.Schedule.{Scheduled, Took, addressOf, extended}
+use Rattle.generator.specs.Generating.{Made}
 use Rattle.generator.proofs.Extensions.{extended-same, extended-here, bank-word, address-word, took-word, took-port, took-bank}
 
 module _ {n w : ℕ} {p : ℕ → ℕ} {reads : ℕ → ℕ → ℕ} {t : ℕ} {words heads edges owner addresses forward back writes : List ℕ}
@@ -114,21 +117,6 @@ module _ {n w : ℕ} {p : ℕ → ℕ} {reads : ℕ → ℕ → ℕ} {t : ℕ} {
             ap (λ (z : ℕ). getD back z 0) (L .blank .ahead-spare x (omega arith) s) ∙ L .blank .from-spare x (omega arith) s
       ]
 
--- all lines put, and the filling
-pub made : {n w : ℕ} {images before lent file next heads : List ℕ} {reads : ℕ → ℕ → ℕ} → Dims n w
-    → Permutes n (λ i. getD images i 0) → Bytes before → fileLength n w ≤ length before
-    → Linked n w (λ i. getD images i 0) lent next heads
-    → Schedule n w (λ i. getD images i 0) reads
-    → Written (setBits n w (λ i. getD images i 0) reads) before file (lineAt n w (cycles n w))
-    → Filled n w images before lent (putFilling n w file) next
-made {n} {w} {images} {before} {reads = reads} D P B fits K S W = record {
-  reads = reads;
-  schedule = S;
-  written = written-all D P S B fits (filling-written n w (λ i. getD images i 0) reads before fits W);
-  scratch-long = K .long;
-  scratch-kept = K .behind;
-}
-
 -- ---- the buffer once the header was put
 
 module _ {bits before mid : List ℕ} {x : ℕ} where
@@ -150,33 +138,34 @@ pub lines-room : (n w t : ℕ) → t ≤ cycles n w → lineAt n w t ≤ 8 * fil
 unfolding lineAt
 lines-room n w t l = omega (arith, fileLength-reaches n w, mul-le-mul-right (lineBits n w) l)
 
-pub lines-begin : (n w t : ℕ) → lineAt n w 0 ≤ lineAt n w t
-unfolding lineAt
-lines-begin n w t = omega arith
-
 -- a writer stores what it holds in a file as long
 pub held-long : {bits before : List ℕ} {x : ℕ} (file : List ℕ) (writer : Writer) → Written bits before (wholeOf file writer) x → length file ≡ length before
 held-long file writer W = sym (length-putField file (8 * writer .first) (writer .held) (writer .window)) ∙ W .long
 
--- ---- the shape stands for n and w
+-- ---- the whole set
 
-module _ (n w : ℕ) {s : Shape} (e : s ≡ shapeOf n w) where
-  pub shape-cycles : s .cycles ≡ cycles n w
-  unfolding shapeOf
-  shape-cycles = rw e refl
+-- the header begins it, whatever the lines are
+pub set-begun : (n w : ℕ) {before mid : List ℕ} (p : ℕ → ℕ) (reads : ℕ → ℕ → ℕ) → Written (headerOf n w) before mid (headerBits n)
+    → Written (setBits n w p reads) mid mid (lineAt n w 0)
+set-begun n w {before} p reads H = begun (header-written n w p reads before H)
 
-  pub shape-start : s .start ≡ lineAt n w 0
-  unfolding shapeOf lineAt headerBits
-  shape-start = rw e (omega arith)
+-- and with all lines and the filling it is made
+pub set-made : {n w : ℕ} {p : ℕ → ℕ} {before mid file heads edges owner : List ℕ} {reads : ℕ → ℕ → ℕ} (t : ℕ) → t ≡ cycles n w → Dims n w
+    → Permutes n p → Bytes before → fileLength n w ≤ length before → Written (headerOf n w) before mid (headerBits n)
+    → Scheduled n w p reads t heads edges owner → Written (setBits n w p reads) mid file (lineAt n w t)
+    → Made n w p before (putFilling n w file)
+unfolding lineAt
+set-made {n} {w} {p} {before} {reads = reads} t all D P B fits H S L =
+    let schedule : Schedule n w p reads = scheduled-schedule (rw all at S) in
+    record {
+      reads = reads;
+      schedule = schedule;
+      written =
+          written-all D P schedule B fits
+          (filling-written n w p reads before fits (over (header-written n w p reads before H) (rw all at L) (omega arith)));
+    }
 
-  pub shape-stride : s .stride ≡ lineBits n w
-  unfolding shapeOf
-  shape-stride = rw e refl
-
-  pub shape-words : s .words ≡ n
-  unfolding shapeOf
-  shape-words = rw e refl
-
-  pub shape-width : s .width ≡ w
-  unfolding shapeOf
-  shape-width = rw e refl
+-- a set of m words and width v is one of n words and width w, where these are the same numbers
+pub made-at : {m v n w : ℕ} {file file′ : List ℕ} (images : List ℕ) → m ≡ n → v ≡ w → Made m v (orderOf m images) file file′
+    → Made n w (orderOf n images) file file′
+made-at images e f M = rw (e, f) at M

@@ -22,7 +22,7 @@ use Rattle.matching.proofs.Matchings.{perfect-onto, perfect-ports}
 use Rattle.tables.specs.Terms.{cycles}
 use Rattle.tables.specs.Generated.{wordOf, portOf, Schedule}
 use Rattle.tables.proofs.Dims.{address-below}
-use Rattle.generator.specs.Schedule.{headAt, left, Headed, Scheduled, addressOf, extended, Took, Takeable, Takes, Due}
+use Rattle.generator.specs.inner.Schedule.{headAt, left, Headed, Scheduled, addressOf, extended, Took, Takeable, Takes, Due}
 use Rattle.generator.proofs.Counting.{left-same, left-positive, left-taken, next-above}
 use Rattle.generator.proofs.Extensions.{extended-same, extended-here, word-same, port-same, bank-word, address-word, line-word, line-port, line-apart}
 

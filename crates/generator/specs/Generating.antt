@@ -1,16 +1,15 @@
 -- The call "generating": its refusals, and what an accepted call leaves behind.
-use Prim.Native.Nat.{ℕ, _+_, _*_, _%_, _≤_}
+use Prim.Native.Nat.{ℕ, _+_, _*_, _≤_}
 use mathlib.Core.Path.{_≡_}
 use mathlib.Core.List.{List, _++_}
 use lib.ListN.{length, getD, drop}
-use Rattle.limits.specs.Limits.{mostWords, mostWidth}
-use Rattle.laws.specs.Choice.{ifLt, ifEq}
+use Rattle.laws.specs.Choice.{ifLt}
 use Rattle.refusal.specs.declared.Refusal.{Refusal}
-use Rattle.refusal.specs.declared.Refusal.the-variants.{FrameSize, Width, Uneven, BufferShort}
+use Rattle.refusal.specs.declared.Refusal.the-variants.{BufferShort}
 use Rattle.images.specs.declared.Checked.{Checked}
 use Rattle.images.specs.declared.Checked.the-variants.{Permutation, Refused}
-use Rattle.images.specs.Images.{checkOf}
-use Rattle.tables.specs.Terms.{fileLength}
+use Rattle.images.specs.Images.{checkOf, orderOf}
+use Rattle.tables.specs.Terms.{fileLength, limitTest}
 use Rattle.tables.specs.Generated.{Schedule, setOf}
 use Rattle.generator.specs.declared.Generation.{Generation}
 use Rattle.generator.specs.declared.Generation.the-variants.{Written, Refused as Unmade}
@@ -19,28 +18,30 @@ use Rattle.generator.specs.declared.Generation.the-variants.{Written, Re
 unfoldable pub scratchNeed : ℕ → ℕ
 scratchNeed n = 4 * n + 1024
 
--- "1, 2, 3, 12, then 4 and 5 by rising i", with so many bytes for the file and so many scratch words
+-- "12, then 4 and 5 by rising i", with so many bytes for the file and so many scratch words
+unfoldable pub lentTest : ℕ → ℕ → List ℕ → ℕ → ℕ → Checked
+lentTest n w images room scratch =
+    ifLt (length images) n (Refused BufferShort)
+    (ifLt room (fileLength n w) (Refused BufferShort) (ifLt scratch (scratchNeed n) (Refused BufferShort) (checkOf images n)))
+
+-- "1, 2, 3, 12, then 4 and 5 by rising i"
 unfoldable pub checksOf : ℕ → ℕ → List ℕ → ℕ → ℕ → Checked
-checksOf n w images room scratch =
-    ifLt n 1 (Refused FrameSize)
-    (ifLt mostWords n (Refused FrameSize)
-    (ifLt w 1 (Refused Width)
-    (ifLt mostWidth w (Refused Width)
-    (ifEq (n % w) 0
-    (ifLt (length images) n (Refused BufferShort)
-    (ifLt room (fileLength n w) (Refused BufferShort) (ifLt scratch (scratchNeed n) (Refused BufferShort) (checkOf images n))))
-    (Refused Uneven)))))
+checksOf n w images room scratch = limitTest n w Refused (lentTest n w images room scratch)
 
 -- the answer, with the lent file and scratch afterwards
 pub data Outcome : Type 0 where
   outcome : Generation → List ℕ → List ℕ → Outcome
 
--- "which read lines a generated set has" is open, and so are the needed scratch words: read lines that take each word once, with all ports
--- of a line different, and their set at the front of the file; behind it, and behind the needed scratch words, all is as it was
-pub record Filled (n w : ℕ) (images file scratch file′ scratch′ : List ℕ) : Type 0 where
+-- "which read lines a generated set has" is open: read lines that take each word once, with all ports of a line different, and their set
+-- at the front of the file; behind it all is as it was
+pub record Made (n w : ℕ) (p : ℕ → ℕ) (file file′ : List ℕ) : Type 0 where
   pub reads : ℕ → ℕ → ℕ
-  pub schedule : Schedule n w (λ i. getD images i 0) reads
-  pub written : file′ ≡ setOf n w (λ i. getD images i 0) reads ++ drop (fileLength n w) file
+  pub schedule : Schedule n w p reads
+  pub written : file′ ≡ setOf n w p reads ++ drop (fileLength n w) file
+
+-- and so are the needed scratch words. Only the first n of them are used, and all later ones are as they were
+pub record Filled (n w : ℕ) (images file scratch file′ scratch′ : List ℕ) : Type 0 where
+  pub made : Made n w (orderOf n images) file file′
   pub scratch-long : length scratch′ ≡ length scratch
   pub scratch-kept : (i : ℕ) → n ≤ i → getD scratch′ i 0 ≡ getD scratch i 0
 

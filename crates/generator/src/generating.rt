@@ -2,13 +2,14 @@
 ghost use mathlib.Core.Path.{_≡_};
 ghost use mathlib.Core.List.{List};
 ghost use Prim.Native.Nat.{ℕ, _≤_};
-ghost use lib.ListN.{length, getD};
+ghost use lib.ListN.{length};
 ghost use Rattle.laws.specs.Permutation.{Permutes};
-ghost use Rattle.tables.specs.Terms.{Dims, cycles, fileLength};
-ghost use Rattle.tables.specs.Format.{lineAt, shapeOf};
-ghost use Rattle.tables.specs.Generated.{Schedule, Written, setBits};
-ghost use Rattle.generator.specs.Schedule.{Linked, Drawn};
-ghost use Rattle.generator.specs.Generating.{checksOf, Filled, Generates};
+ghost use Rattle.images.specs.Images.{orderOf};
+ghost use Rattle.tables.specs.Terms.{Dims, fileLength};
+ghost use Rattle.tables.specs.Format.{Shaped};
+ghost use Rattle.tables.specs.inner.Buffers.{Written};
+ghost use Rattle.generator.specs.inner.Schedule.{Linked, Drawn};
+ghost use Rattle.generator.specs.Generating.{lentTest, checksOf, Made, Filled, Generates};
 use crate::Generation;
 use crate::scheduling::HEADS;
 use crate::scheduling::chain;
@@ -16,30 +17,16 @@ use crate::scheduling::take_line;
 use images::Checked;
 use limits::MOST_SWITCHES;
 use limits::MOST_WIDTH;
-use limits::MOST_WORDS;
 use matching::FREE;
 use refusal::Refusal;
+use tables::Limits;
 use tables::Shape;
 
-// The tests before the first lent word is written, with `room` bytes lent for the file and `scratch` scratch words.
-fn checks(n: usize, w: usize, images: &[u16], room: usize, scratch: usize) -> Checked
-    ensures { λ r. ⌜ r ≡ checksOf n w (now (images .entry)) room scratch ⌝ }
+// The tests of the lent memory and of the images, with `room` bytes lent for the file and `scratch` scratch words.
+fn check_lent(n: usize, w: usize, images: &[u16], room: usize, scratch: usize) -> Checked
+    requires { ⌜ Dims n w ⌝ }
+    ensures { λ r. ⌜ r ≡ lentTest n w (now (images .entry)) room scratch ⌝ }
 {
-    if n < 1 {
-        return Checked::Refused(Refusal::FrameSize);
-    }
-    if MOST_WORDS < n {
-        return Checked::Refused(Refusal::FrameSize);
-    }
-    if w < 1 {
-        return Checked::Refused(Refusal::Width);
-    }
-    if MOST_WIDTH < w {
-        return Checked::Refused(Refusal::Width);
-    }
-    if n % w != 0 {
-        return Checked::Refused(Refusal::Uneven);
-    }
     if images.len() < n {
         return Checked::Refused(Refusal::BufferShort);
     }
@@ -52,8 +39,18 @@ fn checks(n: usize, w: usize, images: &[u16], room: usize, scratch: usize) -> Ch
     images::check(images, n)
 }
 
-// Puts the lines of a permutation's set behind its header. The arrays of a line are made once and lent to each.
-fn put_lines(
+// All tests before the first lent word is written.
+fn checks(n: usize, w: usize, images: &[u16], room: usize, scratch: usize) -> Checked
+    ensures { λ r. ⌜ r ≡ checksOf n w (now (images .entry)) room scratch ⌝ }
+{
+    match tables::test_limits(n, w) {
+        Limits::Refused(refusal) => Checked::Refused(refusal),
+        Limits::Kept => check_lent(n, w, images, room, scratch),
+    }
+}
+
+// Puts the set of a permutation into the file, line by line. The arrays of a line are made once and lent to each.
+fn put_set(
     images: &[u16],
     next: &[u16],
     heads: &mut [u16; HEADS],
@@ -61,12 +58,12 @@ fn put_lines(
     shape: Shape,
     file: &mut [u8],
 )
-    requires { ⌜ (Dims (shape .words) (shape .width)) × (shape ≡ shapeOf (shape .words) (shape .width)) × Permutes (shape .words) (λ i. getD (now images) i 0) ⌝ }
-    requires { ⌜ (shape .words ≤ length (now images)) × (shape .words ≤ length (now next)) × (fileLength (shape .words) (shape .width) ≤ length (now file)) ⌝ }
-    requires { ⌜ ((lent : List ℕ) × Linked (shape .words) (shape .width) (λ i. getD (now images) i 0) lent (now next) (now heads)) × Drawn (shape .width) (now heads) (now edges) ⌝ }
-    requires { ⌜ ((lines : ℕ → ℕ → ℕ) → Written (setBits (shape .words) (shape .width) (λ i. getD (now images) i 0) lines) (now file) (now file) (lineAt (shape .words) (shape .width) 0)) ⌝ }
-    ensures { λ _. ⌜ ((lines : ℕ → ℕ → ℕ) × Schedule (shape .words) (shape .width) (λ i. getD (now (images .entry)) i 0) lines
-        × Written (setBits (shape .words) (shape .width) (λ i. getD (now (images .entry)) i 0) lines) (now (file .entry)) (now (file .exit)) (lineAt (shape .words) (shape .width) (cycles (shape .words) (shape .width)))) ⌝ }
+    requires { ⌜ Shaped shape × Permutes (shape .words) (orderOf (shape .words) (now images)) ⌝ }
+    requires { ⌜ (shape .words ≤ length (now images)) × (shape .words ≤ length (now next))
+        × (fileLength (shape .words) (shape .width) ≤ length (now file)) ⌝ }
+    requires { ⌜ ((lent : List ℕ) × Linked (shape .words) (shape .width) (orderOf (shape .words) (now images)) lent (now next) (now heads))
+        × Drawn (shape .width) (now heads) (now edges) ⌝ }
+    ensures { λ _. ⌜ Made (shape .words) (shape .width) (orderOf (shape .words) (now (images .entry))) (now (file .entry)) (now (file .exit)) ⌝ }
 {
     let mut owner = [FREE; MOST_WIDTH];
     let mut words = [0u16; MOST_WIDTH];
@@ -75,7 +72,7 @@ fn put_lines(
     let mut back = tables::numbered();
     let mut writes = [0u16; MOST_WIDTH];
     let mut switches = [0u8; MOST_SWITCHES];
-    let mut writer = bits::writer_at(file, shape.start);
+    let mut writer = packing::begin(file, shape);
     let mut t = 0;
     while t < shape.cycles {
         take_line(next, heads, edges, &mut owner, &mut words, shape.width);
@@ -100,21 +97,20 @@ fn put_lines(
         );
         t += 1;
     }
-    bits::finish(file, writer);
+    packing::end(file, writer, shape);
 }
 
 // Writes the set of a permutation. The first n words of `next` hold the chains of words.
 fn make(images: &[u16], n: usize, w: usize, file: &mut [u8], next: &mut [u16]) -> usize
-    requires { ⌜ (Dims n w) × (n ≤ length (now images)) × (n ≤ length (now next)) × (fileLength n w ≤ length (now file)) ⌝ }
-    requires { ⌜ Permutes n (λ i. getD (now images) i 0) ⌝ }
-    ensures { λ r. ⌜ (r ≡ fileLength n w) × Filled n w (now (images .entry)) (now (file .entry)) (now (next .entry)) (now (file .exit)) (now (next .exit)) ⌝ }
+    requires { ⌜ Dims n w × (n ≤ length (now images)) × (n ≤ length (now next)) × (fileLength n w ≤ length (now file)) ⌝ }
+    requires { ⌜ Permutes n (orderOf n (now images)) ⌝ }
+    ensures { λ r. ⌜ (r ≡ fileLength n w)
+        × Filled n w (now (images .entry)) (now (file .entry)) (now (next .entry)) (now (file .exit)) (now (next .exit)) ⌝ }
 {
     let shape = tables::shape_of(n, w);
-    packing::put_header(file, n, w);
     let mut edges = [0u64; MOST_WIDTH];
     let mut heads = chain(images, n, w, next, &mut edges);
-    put_lines(images, next, &mut heads, &mut edges, shape, file);
-    packing::put_filling(file, shape);
+    put_set(images, next, &mut heads, &mut edges, shape, file);
     tables::file_length(shape)
 }
 

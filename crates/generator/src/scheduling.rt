@@ -4,9 +4,11 @@ ghost use mathlib.Core.Path.{_≡_};
 ghost use Prim.Native.Nat.{ℕ, _+_, _*_, _%_, _<_, _≤_};
 ghost use lib.ListN.{length, getD, replicate};
 ghost use Rattle.limits.specs.Limits.{mostWidth};
+ghost use Rattle.images.specs.Images.{orderOf};
 ghost use Rattle.matching.specs.Graph.{Edge};
 ghost use Rattle.tables.specs.Terms.{Dims};
-ghost use Rattle.generator.specs.Schedule.{headAt, Linked, Drawn, Advanced, Takeable, Takes, Due, Took, headCount};
+ghost use Rattle.generator.specs.inner.Schedule.{headAt, Linked, Drawn, Advanced, Takeable, Takes, Due, Took, headCount};
+use images::image_at;
 use limits::MOST_WIDTH;
 use limits::NO_WORD;
 use matching::complete;
@@ -15,14 +17,6 @@ use matching::release;
 
 // The heads: one for each bank and port.
 pub const HEADS: usize = MOST_WIDTH * MOST_WIDTH;
-
-// The image of word i.
-pub fn image(images: &[u16], i: usize) -> usize
-    requires { ⌜ i < length (now images) ⌝ }
-    ensures { λ r. ⌜ (r ≡ getD (now (images .entry)) i 0) × (r < 65536) ⌝ }
-{
-    images[i] as usize
-}
 
 // The bank of the word before a word of this bank. A remainder would tell it too, but at the cost of a division.
 fn bank_before(bank: usize, w: usize) -> usize
@@ -43,7 +37,7 @@ pub fn chain(
 ) -> [u16; HEADS]
     requires { ⌜ (Dims n w) × (n ≤ length (now images)) × (n ≤ length (now next)) ⌝ }
     requires { ⌜ now edges ≡ replicate mostWidth 0 ⌝ }
-    ensures { λ r. ⌜ Linked n w (λ i. getD (now (images .entry)) i 0) (now (next .entry)) (now (next .exit)) r × Drawn w r (now (edges .exit)) ⌝ }
+    ensures { λ r. ⌜ Linked n w (orderOf n (now (images .entry))) (now (next .entry)) (now (next .exit)) r × Drawn w r (now (edges .exit)) ⌝ }
 {
     let mut heads = [NO_WORD; HEADS];
     let mut bank = 0;
@@ -51,7 +45,7 @@ pub fn chain(
     while 0 < i {
         i -= 1;
         bank = bank_before(bank, w);
-        let port = image(images, i) % w;
+        let port = image_at(images, i) % w;
         let place = bank * MOST_WIDTH + port;
         next[i] = heads[place];
         heads[place] = i as u16;

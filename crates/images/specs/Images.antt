@@ -7,6 +7,10 @@ use Rattle.refusal.specs.declared.Refusal.the-variants.{OutOfRange, Repeated}
 use Rattle.images.specs.declared.Checked.{Checked}
 use Rattle.images.specs.declared.Checked.the-variants.{Permutation, Refused}
 
+-- P: "word i of a frame leaves at place P(i)", of n words, where the images list it
+abbrev pub orderOf : ℕ → List ℕ → ℕ → ℕ
+orderOf n images = λ i. getD images i 0
+
 -- 1 where x is the image of one of the first i elements, else 0
 unfoldable pub earlier : List ℕ → ℕ → ℕ → ℕ
 earlier images zero x = 0

@@ -1,11 +1,19 @@
 // The checks of a list of images: refusals 4 and 5, by rising element.
 ghost use mathlib.Core.Path.{_≡_};
-ghost use Prim.Native.Nat.{_≤_};
+ghost use Prim.Native.Nat.{_^_, _<_, _≤_};
 ghost use lib.ListN.{length};
 ghost use Rattle.limits.specs.Limits.{mostWords};
-ghost use Rattle.images.specs.Images.{checkOf};
+ghost use Rattle.images.specs.Images.{checkOf, orderOf};
 use limits::MOST_WORDS;
 use refusal::Refusal;
+
+// The image of word i. Only our own crates call it, for a word of the list.
+pub fn image_at(images: &[u16], i: usize) -> usize
+    requires { ⌜ i < length (now images) ⌝ }
+    ensures { λ r. ⌜ (r ≡ orderOf (length (now (images .entry))) (now (images .entry)) i) × (r < 2 ^ 16) ⌝ }
+{
+    images[i] as usize
+}
 
 pub enum Checked {
     Permutation,

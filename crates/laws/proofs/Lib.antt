@@ -5,3 +5,4 @@ pub mod Splices
 pub mod Sums
 pub mod Pigeonhole
 pub mod Permutations
+pub mod Joins

@@ -11,3 +11,8 @@ tabulate (suc n) f = tabulate n f ++ (f n ∷ [])
 -- the first n elements are f's, the later ones are those of xs
 unfoldable pub overwrite : {A : Type 0} → ℕ → (ℕ → A) → List A → List A
 overwrite n f xs = tabulate n f ++ drop n xs
+
+-- f 0, .., f (k - 1), one list behind the other
+unfoldable pub joined : {A : Type 0} → ℕ → (ℕ → List A) → List A
+joined zero f = []
+joined (suc k) f = joined k f ++ f k

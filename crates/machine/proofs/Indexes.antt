@@ -7,25 +7,24 @@ use native.Mathlib.Numerals.{add-one}
 use lib.ListN.{getD, set}
 use Rattle.limits.specs.Limits.{mostWords}
 use Rattle.tables.specs.Terms.{cycles}
-use Rattle.tables.specs.Format.{shapeOf}
+use Rattle.tables.specs.Format.{Shaped}
 use Rattle.tables.specs.declared.Shape.{Shape}
-use Rattle.tables.proofs.Dims.{Dims, cycles-few}
-use Rattle.tables.proofs.Lined.{shape-cycles}
+use Rattle.tables.proofs.Dims.{cycles-few}
 use Rattle.machine.specs.Step.{spot, entering}
 use Rattle.machine.specs.declared.Clock.{Clock}
 use Rattle.machine.proofs.Spots.{spot-below, banks-size}
 
-module _ (s : Shape) (D : Dims (s .words) (s .width)) (e : s ≡ shapeOf (s .words) (s .width)) (h b p : ℕ) where
+module _ {s : Shape} (S : Shaped s) (h b p : ℕ) where
   pub index-spot : b * (2 * s .cycles) + (h * s .cycles + p) ≡ spot (cycles (s .words) (s .width)) h b p
   unfolding spot
-  index-spot = ap (λ (z : ℕ). b * (2 * z) + (h * z + p)) (shape-cycles s e)
+  index-spot = ap (λ (z : ℕ). b * (2 * z) + (h * z + p)) (S .cycles)
 
   pub index-inside : h < 2 → b < s .width → p < cycles (s .words) (s .width) → b * (2 * s .cycles) + (h * s .cycles + p) < 2 * s .words
   index-inside half bank inside =
-      omega (arith, index-spot, spot-below (cycles (s .words) (s .width)) h b p half inside (s .width) bank, banks-size D)
+      omega (arith, index-spot, spot-below (cycles (s .words) (s .width)) h b p half inside (s .width) bank, banks-size (S .dims))
 
-pub shape-few : (s : Shape) → Dims (s .words) (s .width) → s ≡ shapeOf (s .words) (s .width) → s .cycles ≤ mostWords
-shape-few s D e = omega (arith, shape-cycles s e, cycles-few D)
+pub shape-few : {s : Shape} → Shaped s → s .cycles ≤ mostWords
+shape-few S = omega (arith, S .cycles, cycles-few (S .dims))
 
 -- one word more has entered
 pub entering-more : (c : ℕ) (clock : Clock) (words : List ℕ) (b : ℕ) (first : List ℕ)

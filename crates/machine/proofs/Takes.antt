@@ -18,7 +18,7 @@ use Rattle.laws.proofs.Anys.{any-true, any-false}
 use Rattle.laws.proofs.Permutations.{onto}
 use Rattle.tables.specs.Terms.{cycles}
 use Rattle.tables.specs.Datapath.{carriedTo}
-use Rattle.tables.specs.Lines.{Line}
+use Rattle.tables.specs.inner.Lines.{Line}
 use Rattle.tables.proofs.Dims.{depth-reaches}
 use Rattle.tables.proofs.Lined.{read-is, write-is, source-is}
 use Rattle.tables.proofs.Targets.{carriedTo-injective}

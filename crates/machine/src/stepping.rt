@@ -7,10 +7,10 @@ ghost use lib.ListN.{length};
 ghost use Rattle.limits.specs.Limits.{mostWords};
 ghost use Rattle.laws.specs.Choice.{ifLt};
 ghost use Rattle.laws.specs.Tabulate.{overwrite};
-ghost use Rattle.tables.specs.Terms.{Dims, cycles};
-ghost use Rattle.tables.specs.Format.{shapeOf};
+ghost use Rattle.tables.specs.Terms.{cycles};
+ghost use Rattle.tables.specs.Format.{Shaped};
 ghost use Rattle.tables.specs.Datapath.{strays};
-ghost use Rattle.tables.specs.Lines.{Line};
+ghost use Rattle.tables.specs.inner.Lines.{Line};
 ghost use Rattle.machine.specs.Step.{spot, nextClock, leaving, moving, entering, outcome, accepted, lineTest, stepLine, stepOf};
 ghost use Rattle.machine.specs.declared.Stepped.the-variants.{Filling, Wrote, Refused};
 use crate::Clock;
@@ -27,7 +27,7 @@ use tables::spare_used;
 
 // The word of a memory at an address of a half of a bank.
 fn spot_of(shape: Shape, half: usize, bank: usize, address: usize) -> usize
-    requires { ⌜ (Dims (shape .words) (shape .width)) × (shape ≡ shapeOf (shape .words) (shape .width)) ⌝ }
+    requires { ⌜ Shaped shape ⌝ }
     requires { ⌜ (half < 2) × (bank < shape .width) × (address < cycles (shape .words) (shape .width)) ⌝ }
     ensures { λ r. ⌜ (r ≡ spot (cycles (shape .words) (shape .width)) half bank address) × (r < 2 * shape .words) ⌝ }
 {
@@ -36,7 +36,7 @@ fn spot_of(shape: Shape, half: usize, bank: usize, address: usize) -> usize
 
 // The words that leave, if fill is 2: address t of half 1-h of each bank of the second memory.
 fn leave(second: &[u16], shape: Shape, clock: Clock, out: &mut [u16])
-    requires { ⌜ (Dims (shape .words) (shape .width)) × (shape ≡ shapeOf (shape .words) (shape .width)) ⌝ }
+    requires { ⌜ Shaped shape ⌝ }
     requires { ⌜ (2 * shape .words ≤ length (now second)) × (shape .width ≤ length (now out)) ⌝ }
     requires { ⌜ (clock .cycle < cycles (shape .words) (shape .width)) × (clock .half < 2) ⌝ }
     ensures { λ _. ⌜ now (out .exit) ≡ ifLt (clock .fill) 2 (now (out .entry)) (overwrite (shape .width) (leaving (cycles (shape .words) (shape .width)) clock (now (second .entry))) (now (out .entry))) ⌝ }
@@ -64,7 +64,7 @@ fn move_line<'a>(
     sources: &'a [u8],
     writes: &'a [u16],
 )
-    requires { ⌜ (Dims (shape .words) (shape .width)) × (shape ≡ shapeOf (shape .words) (shape .width)) ⌝ }
+    requires { ⌜ Shaped shape ⌝ }
     requires { ⌜ (2 * shape .words ≤ length (now first)) × (2 * shape .words ≤ length (now second)) × (clock .half < 2) ⌝ }
     requires { ⌜ ((file : List ℕ) × (Line (shape .words) (shape .width) file (clock .cycle) (now reads) (now sources) (now writes)) × (strays (shape .words) (shape .width) file (clock .cycle) ≡ false)) ⌝ }
     ensures { λ _. ⌜ ((file : List ℕ) → Line (shape .words) (shape .width) file (clock .cycle) (now (reads .entry)) (now (sources .entry)) (now (writes .entry)) → strays (shape .words) (shape .width) file (clock .cycle) ≡ false → now (second .exit) ≡ moving (shape .words) (shape .width) file clock (now (first .entry)) (shape .width) (now (second .entry))) ⌝ }
@@ -82,7 +82,7 @@ fn move_line<'a>(
 
 // The words that enter: to address t of half h of each bank of the first memory.
 fn enter(first: &mut [u16], shape: Shape, clock: Clock, words: &[u16])
-    requires { ⌜ (Dims (shape .words) (shape .width)) × (shape ≡ shapeOf (shape .words) (shape .width)) ⌝ }
+    requires { ⌜ Shaped shape ⌝ }
     requires { ⌜ (2 * shape .words ≤ length (now first)) × (length (now words) ≡ shape .width) ⌝ }
     requires { ⌜ (clock .cycle < cycles (shape .words) (shape .width)) × (clock .half < 2) ⌝ }
     ensures { λ _. ⌜ now (first .exit) ≡ entering (cycles (shape .words) (shape .width)) clock (now (words .entry)) (shape .width) (now (first .entry)) ⌝ }
@@ -119,7 +119,7 @@ fn carry_on<'a>(
     words: &[u16],
     out: &mut [u16],
 ) -> Stepped
-    requires { ⌜ (Dims (shape .words) (shape .width)) × (shape ≡ shapeOf (shape .words) (shape .width)) ⌝ }
+    requires { ⌜ Shaped shape ⌝ }
     requires { ⌜ (2 * shape .words ≤ length (now first)) × (2 * shape .words ≤ length (now second)) × (shape .width ≤ length (now out)) × (length (now words) ≡ shape .width) ⌝ }
     requires { ⌜ (clock .cycle < cycles (shape .words) (shape .width)) × (clock .half < 2) × (1 ≤ clock .fill) × (clock .fill ≤ 2) ⌝ }
     requires { ⌜ ((file : List ℕ) × (Line (shape .words) (shape .width) file (clock .cycle) (now reads) (now sources) (now writes)) × (strays (shape .words) (shape .width) file (clock .cycle) ≡ false)) ⌝ }
@@ -141,7 +141,7 @@ fn step_line(
     words: &[u16],
     out: &mut [u16],
 ) -> Stepped
-    requires { ⌜ (Dims (shape .words) (shape .width)) × (shape ≡ shapeOf (shape .words) (shape .width)) ⌝ }
+    requires { ⌜ Shaped shape ⌝ }
     requires { ⌜ (2 * shape .words ≤ length (now first)) × (2 * shape .words ≤ length (now second)) × (shape .width ≤ length (now out)) × (length (now words) ≡ shape .width) ⌝ }
     requires { ⌜ (clock .cycle < cycles (shape .words) (shape .width)) × (clock .half < 2) × (1 ≤ clock .fill) × (clock .fill ≤ 2) ⌝ }
     ensures { λ r. ⌜ outcome r (now (first .exit)) (now (second .exit)) (now (out .exit)) ≡ lineTest (shape .words) (shape .width) (now (file .entry)) clock (λ refusal. outcome (Refused refusal) (now (first .entry)) (now (second .entry)) (now (out .entry))) (accepted (shape .words) (shape .width) (now (file .entry)) clock (now (first .entry)) (now (second .entry)) (now (words .entry)) (now (out .entry))) ⌝ }
@@ -191,7 +191,7 @@ fn step_ready(
     words: &[u16],
     out: &mut [u16],
 ) -> Stepped
-    requires { ⌜ (Dims (shape .words) (shape .width)) × (shape ≡ shapeOf (shape .words) (shape .width)) ⌝ }
+    requires { ⌜ Shaped shape ⌝ }
     requires { ⌜ (2 * shape .words ≤ length (now first)) × (2 * shape .words ≤ length (now second)) × (shape .width ≤ length (now out)) × (length (now words) ≡ shape .width) ⌝ }
     requires { ⌜ (clock .cycle < cycles (shape .words) (shape .width)) × (clock .half < 2) × (clock .fill ≤ 2) ⌝ }
     ensures { λ r. ⌜ outcome r (now (first .exit)) (now (second .exit)) (now (out .exit)) ≡ lineTest (shape .words) (shape .width) (now (file .entry)) clock (λ refusal. outcome (Refused refusal) (now (first .entry)) (now (second .entry)) (now (out .entry))) (accepted (shape .words) (shape .width) (now (file .entry)) clock (now (first .entry)) (now (second .entry)) (now (words .entry)) (now (out .entry))) ⌝ }
@@ -213,7 +213,7 @@ fn step_set(
     words: &[u16],
     out: &mut [u16],
 ) -> Stepped
-    requires { ⌜ (Dims (shape .words) (shape .width)) × (shape ≡ shapeOf (shape .words) (shape .width)) ⌝ }
+    requires { ⌜ Shaped shape ⌝ }
     ensures { λ r. ⌜ outcome r (now (first .exit)) (now (second .exit)) (now (out .exit)) ≡ stepLine (shape .words) (shape .width) (now (file .entry)) clock (now (first .entry)) (now (second .entry)) (now (words .entry)) (now (out .entry)) ⌝ }
 {
     let need = 2 * shape.words;

@@ -11,7 +11,7 @@ use Rattle.laws.specs.Sum.{sum, is, hits}
 use Rattle.laws.proofs.Sums.{is-ne, is-le, is-positive, sum-ext, sum-le, sum-add, sum-mul, sum-swap, sum-is, sum-positive}
 use Rattle.matching.specs.Set.{member, _∈_, Collects, Minus}
 use Rattle.matching.specs.Matching.{Taken, ports, Matches, Violator, tried}
-use Rattle.matching.specs.Search.{Closed, Explored}
+use Rattle.matching.specs.inner.Search.{Closed, Explored}
 use Rattle.matching.proofs.Members.{member-le}
 
 -- the factors of a product that is not 0

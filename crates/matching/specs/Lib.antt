@@ -1,4 +1,4 @@
 pub mod Set
 pub mod Graph
 pub mod Matching
-pub mod Search
+pub mod inner

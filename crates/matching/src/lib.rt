@@ -15,7 +15,7 @@ ghost use lib.ListN.{length, getD};
 ghost use Rattle.limits.specs.Limits.{mostWidth};
 ghost use Rattle.matching.specs.Graph.{Edge, Joined, Released};
 ghost use Rattle.matching.specs.Matching.{Matches, Completes};
-ghost use Rattle.matching.specs.Search.{Ready, Searched, Surveyed};
+ghost use Rattle.matching.specs.inner.Search.{Ready, Searched, Surveyed};
 
 // In place of the owner of a port that has none.
 pub const FREE: u8 = MOST_WIDTH as u8;

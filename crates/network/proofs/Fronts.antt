@@ -10,7 +10,7 @@ use Rattle.limits.specs.Limits.{mostWidth}
 use Rattle.laws.specs.Permutation.{Permutes, inverse}
 use Rattle.laws.proofs.Permutations.{permutes-ext, inverse-unique}
 use Rattle.network.specs.Setting.{setting}
-use Rattle.network.specs.Steps.{Inverses, Narrowed, Inverting}
+use Rattle.network.specs.inner.Steps.{Inverses, Narrowed, Inverting}
 use Rattle.network.proofs.Unique.{setting-ext}
 
 pub length-front : (width : ℕ) (r : List ℕ) → width ≤ mostWidth → length r ≡ mostWidth → length (take width r) ≡ width

@@ -20,7 +20,7 @@ use Rattle.network.specs.Network.{bitCount, exit}
 use Rattle.network.specs.Rule.{Halves, lineOf, inner}
 use Rattle.network.specs.Setting.{chosen, setting}
 use Rattle.network.specs.Calls.{Sized}
-use Rattle.network.specs.Steps.{Inverses, Placed, Picked, Wirable, Outer, InnerPair, innerCount, outputsAt}
+use Rattle.network.specs.inner.Steps.{Inverses, Placed, Picked, Wirable, Outer, InnerPair, innerCount, outputsAt}
 use Rattle.network.proofs.Exists.{chosen-halves}
 use Rattle.network.proofs.Levels.{width-even, last-straight, half-lineOf, lineOf-below, lineOf-switch, exit-output, inner-permutes}
 use Rattle.network.proofs.Unique.{setting-ext, setting-level}

@@ -16,7 +16,7 @@ use Rattle.laws.proofs.Sums.{sum-change}
 use Rattle.laws.proofs.Permutations.{inverse-below, inverse-right}
 use Rattle.network.specs.Network.{partner}
 use Rattle.network.specs.Setting.{next, chosen}
-use Rattle.network.specs.Steps.{startAt, Inverses}
+use Rattle.network.specs.inner.Steps.{startAt, Inverses}
 use Rattle.network.proofs.Partners.{partner-below, partner-partner, next-below, next-permutes}
 use Rattle.network.proofs.Orbits.{iterate, iterate-step, iterate-below}
 use Rattle.network.proofs.Walks.{Painted, Walk, Swept, paint, painted-none, walk-start, walk-started, chosen-first, walk-turn, walk-closes, walk-back, swept-first, swept-upper, swept-turn}

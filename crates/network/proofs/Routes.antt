@@ -18,7 +18,7 @@ use Rattle.laws.proofs.Splices.{length-part}
 use Rattle.laws.proofs.Tabulates.{stored-turn}
 use Rattle.network.specs.Network.{bitCount, half, exit, outputBit, leaves}
 use Rattle.network.specs.Calls.{Sized, Routed}
-use Rattle.network.specs.Steps.{Taken, Joined, Switched}
+use Rattle.network.specs.inner.Steps.{Taken, Joined, Switched}
 use Rattle.network.proofs.Leaves.{leaves-below, leaves-part, outputBit-listed}
 
 -- taking in: no switch, and one more

@@ -10,7 +10,7 @@ use lib.ListN.{length, getD, take, drop}
 use Rattle.laws.specs.Splice.{part}
 use Rattle.network.specs.Network.{bitCount, half, exit, outputBit, leaves}
 use Rattle.network.specs.Calls.{Sized}
-use Rattle.network.specs.Steps.{innerCount}
+use Rattle.network.specs.inner.Steps.{innerCount}
 use Rattle.network.proofs.Leaves.{leaves-below, leaves-part, outputBit-listed}
 
 pub record Parted (width count d : ℕ) : Type 0 where

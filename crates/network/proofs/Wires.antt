@@ -8,7 +8,7 @@ use lib.Seq.{getD-set-other}
 use Rattle.limits.specs.Limits.{mostWidth, mostInner}
 use Rattle.laws.proofs.Tabulates.{stored-turn}
 use Rattle.laws.specs.Permutation.{Permutes}
-use Rattle.network.specs.Steps.{Placed, Picked, Divided, Inverting}
+use Rattle.network.specs.inner.Steps.{Placed, Picked, Divided, Inverting}
 
 -- one more inner line, and one more bit
 picked-more : {bit : ℕ → ℕ} {images : List ℕ} {h n i : ℕ} {inner : List ℕ} → Picked bit n images h inner → n < 32 → i ≡ 2 * n + (h + bit n) % 2

@@ -3,7 +3,6 @@ use Prim.Native.Nat.{ℕ, zero, suc, _+_, _^_, _<_}
 use mathlib.Core.Path.{_≡_}
 use mathlib.Core.List.{List}
 use lib.ListN.{length, getD}
-use Rattle.limits.specs.Limits.{mostWidth}
 use Rattle.laws.specs.Choice.{ifLt, ifLe, ifEq}
 use Rattle.laws.specs.Tabulate.{overwrite}
 use Rattle.refusal.specs.declared.Refusal.the-variants.{Width, BufferShort, SwitchValue, OutOfRange}

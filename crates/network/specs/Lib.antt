@@ -3,4 +3,4 @@ pub mod Rule
 pub mod Setting
 pub mod Carried
 pub mod Calls
-pub mod Steps
+pub mod inner

@@ -5,7 +5,7 @@ ghost use lib.ListN.{length, getD};
 ghost use Rattle.limits.specs.Limits.{mostWidth, mostInner};
 ghost use Rattle.laws.specs.Choice.{ifEq};
 ghost use Rattle.network.specs.Calls.{Sized, Routed};
-ghost use Rattle.network.specs.Steps.{Taken, Joined, Givable, Switched};
+ghost use Rattle.network.specs.inner.Steps.{Taken, Joined, Givable, Switched};
 use crate::widths::wide;
 use limits::MOST_INNER;
 

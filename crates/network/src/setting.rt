@@ -6,7 +6,7 @@ ghost use Rattle.limits.specs.Limits.{mostWidth, mostInner};
 ghost use Rattle.laws.specs.Permutation.{Permutes};
 ghost use Rattle.network.specs.Setting.{setting, chosen};
 ghost use Rattle.network.specs.Calls.{Sized, outcome, setOf};
-ghost use Rattle.network.specs.Steps.{startAt, Inverses, InputsSet, Wirable, OutputsSet, Outer, InnerPair, Narrowed, Inverting};
+ghost use Rattle.network.specs.inner.Steps.{startAt, Inverses, InputsSet, Wirable, OutputsSet, Outer, InnerPair, Narrowed, Inverting};
 use crate::widths::bit_count;
 use crate::widths::depth_of;
 use crate::widths::partner_of;

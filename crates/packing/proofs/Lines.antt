@@ -16,7 +16,8 @@ use Rattle.tables.specs.Terms.{Dims, cycles, depth, switchBits, addressBits, ad
 use Rattle.tables.specs.Format.{shapeOf}
 use Rattle.tables.specs.declared.Shape.{Shape}
 use Rattle.tables.proofs.Dims.{cycles-reached, lines-few, switchBits-few, addressBits-few}
-use Rattle.packing.specs.Packing.{putFields, putLine, Wired, Ready}
+use Rattle.packing.specs.Packing.{putFields, putLine}
+use Rattle.packing.specs.inner.Plans.{Wired, Ready}
 
 -- ---- the bits of a network, in the front of an array of 321
 

@@ -7,10 +7,9 @@ use native.Mathlib.Nat.{add-suc, add-zero, pow-suc}
 use native.Mathlib.Numerals.{add-one}
 use native.Mathlib.Omega.{arith}
 use lib.ListN.{length, getD}
-use Rattle.bits.specs.Bits.{Bytes, putBit, putField}
-use Rattle.bits.specs.Writing.{Open, placeOf, wholeOf}
+use Rattle.bits.specs.Bits.{Bytes, putBit, putField, numberAt}
+use Rattle.bits.specs.inner.Writing.{Open, positionOf, wholeOf}
 use Rattle.bits.specs.declared.writer.Writer.{Writer}
-use Rattle.tables.specs.Generated.{numberAt}
 use Rattle.packing.specs.Packing.{putFields}
 use Rattle.packing.proofs.Parts.{Putting, long-written}
 
@@ -50,7 +49,7 @@ number-put file at values i (suc m) two =
 -- a field that holds m bits more
 pub putting-number : {whole file after values : List ℕ} {current next : Writer} {at i number : ℕ} (m : ℕ) → Putting whole at 1 values i file current
     → ((j : ℕ) → j < length values → getD values j 0 < 2) → i + m ≤ length values → number ≡ numberAt values i m
-    → Open next × (placeOf next ≡ placeOf current + m) × (wholeOf after next ≡ putField (wholeOf file current) (placeOf current) m number)
+    → Open next × (positionOf next ≡ positionOf current + m) × (wholeOf after next ≡ putField (wholeOf file current) (positionOf current) m number)
     → Bytes after → Putting whole at 1 values (i + m) after next
 putting-number {whole} {file} {after} {values} {current} {next} {at} {i} {number} m P two fits e W B = record {
   opened = W .0;
@@ -63,5 +62,5 @@ putting-number {whole} {file} {after} {values} {current} {next} {at} {i} {number
   known = B;
 }
   where
-    place : placeOf current ≡ at + i
+    place : positionOf current ≡ at + i
     place = omega (arith, P .place)

@@ -7,14 +7,14 @@ use native.Mathlib.Numerals.{add-one}
 use native.Mathlib.Omega.{arith}
 use lib.ListN.{length, getD}
 use Rattle.bits.specs.Bits.{Bytes, putField}
-use Rattle.bits.specs.Writing.{Open, placeOf, wholeOf}
+use Rattle.bits.specs.inner.Writing.{Open, positionOf, wholeOf}
 use Rattle.bits.specs.declared.writer.Writer.{Writer}
 use Rattle.bits.proofs.Fields.{length-putField}
 use Rattle.tables.specs.Terms.{Dims, cycles, fileLength}
 use Rattle.tables.specs.Format.{lineAt, shapeOf}
 use Rattle.tables.specs.declared.Shape.{Shape}
 use Rattle.tables.proofs.Dims.{lineAt-few, fileLength-reaches, fileLength-tight}
-use Rattle.packing.specs.Packing.{putFields, putHeader, putFilling}
+use Rattle.packing.specs.Packing.{putFields, putFilling}
 
 pub putFields-none : (file : List ℕ) (at k : ℕ) (values : List ℕ) → putFields file at k values 0 ≡ file
 unfolding putFields
@@ -38,24 +38,24 @@ long-written file after before behind at k v h =
 -- a file into which the first m values were put, with what the writer holds
 pub record Putting (whole : List ℕ) (at k : ℕ) (values : List ℕ) (m : ℕ) (file : List ℕ) (current : Writer) : Type 0 where
   pub opened : Open current
-  pub place : placeOf current ≡ at + m * k
+  pub place : positionOf current ≡ at + m * k
   pub put : wholeOf file current ≡ putFields whole at k values m
   pub long : length file ≡ length whole
   pub known : Bytes file
 
 pub putting-none : {file : List ℕ} {current : Writer} (k : ℕ) (values : List ℕ) → Open current → Bytes file
-    → Putting (wholeOf file current) (placeOf current) k values 0 file current
+    → Putting (wholeOf file current) (positionOf current) k values 0 file current
 putting-none {file} {current} k values O B = record {
   opened = O;
   place = omega arith;
-  put = sym (putFields-none (wholeOf file current) (placeOf current) k values);
+  put = sym (putFields-none (wholeOf file current) (positionOf current) k values);
   long = sym (length-putField file _ _ _);
   known = B;
 }
 
 -- one turn of a loop that puts the values
 pub putting-more : {whole file after values : List ℕ} {current next : Writer} {at k m : ℕ} → Putting whole at k values m file current
-    → Open next × (placeOf next ≡ placeOf current + k) × (wholeOf after next ≡ putField (wholeOf file current) (placeOf current) k (getD values m 0))
+    → Open next × (positionOf next ≡ positionOf current + k) × (wholeOf after next ≡ putField (wholeOf file current) (positionOf current) k (getD values m 0))
     → Bytes after → Putting whole at k values (m + 1) after next
 putting-more {whole} {file} {after} {values} {current} {next} {at} {k} {m} P W B = record {
   opened = W .0;
@@ -67,18 +67,13 @@ putting-more {whole} {file} {after} {values} {current} {next} {at} {k} {m} P W B
   known = B;
 }
 
--- ---- the header and the filling
-
-pub header-put : (file first second third : List ℕ) (n w : ℕ) → first ≡ putField file 0 13 n → second ≡ putField first 13 7 w → third ≡ putField second 20 4 0
-    → third ≡ putHeader file n w
-unfolding putHeader
-header-put file first second third n w a b c = c ∙ ap (λ (z : List ℕ). putField z 20 4 0) (b ∙ ap (λ (z : List ℕ). putField z 13 7 w) a)
+-- ---- the filling
 
 -- the shape's numbers, where it ends and how long the file is
 pub record Ending (s : Shape) : Type 0 where
   pub offset : s .cycles * s .stride ≤ 2 ^ 24
   pub end : s .start + s .cycles * s .stride ≡ lineAt (s .words) (s .width) (s .cycles)
-  pub all : s .cycles ≡ cycles (s .words) (s .width)
+  pub last : lineAt (s .words) (s .width) (s .cycles) ≡ lineAt (s .words) (s .width) (cycles (s .words) (s .width))
   pub few : lineAt (s .words) (s .width) (s .cycles) ≤ 2 ^ 24
   pub reaches : lineAt (s .words) (s .width) (s .cycles) ≤ 8 * fileLength (s .words) (s .width)
   pub tight : 8 * fileLength (s .words) (s .width) < lineAt (s .words) (s .width) (s .cycles) + 8
@@ -88,7 +83,7 @@ unfolding shapeOf lineAt
 ending {n} {w} D e = rw e (record {
   offset = omega (arith, lineAt-few D (cycles n w) (omega arith));
   end = refl;
-  all = refl;
+  last = refl;
   few = lineAt-few D (cycles n w) (omega arith);
   reaches = fileLength-reaches n w;
   tight = fileLength-tight n w;
@@ -98,6 +93,6 @@ pub filling-put : {s : Shape} (file after : List ℕ) (size : ℕ) → Ending s 
     → after ≡ putField file (s .start + s .cycles * s .stride) (8 * size - (s .start + s .cycles * s .stride)) 0
     → after ≡ putFilling (s .words) (s .width) file
 unfolding putFilling
-filling-put {s} file after size E e h =
-    let q : s .start + s .cycles * s .stride ≡ lineAt (s .words) (s .width) (cycles (s .words) (s .width)) = E .end ∙ ap (lineAt (s .words) (s .width)) (E .all) in
+filling-put file after size E e h =
+    let q = E .end ∙ E .last in
     h ∙ ap₂ (λ (x y : ℕ). putField file x y 0) q (ap₂ (λ (x y : ℕ). 8 * x - y) e q)

@@ -9,7 +9,7 @@ use lib.Seq.{getD-set-other}
 use Rattle.limits.specs.Limits.{mostWidth}
 use Rattle.laws.specs.Permutation.{Injective}
 use Rattle.laws.proofs.Tabulates.{stored-turn}
-use Rattle.packing.specs.Packing.{Blank, Planned}
+use Rattle.packing.specs.inner.Plans.{Blank, Planned}
 
 -- arrays of zeros, and two in which each line goes straight through
 pub blank-numbered : (w : ℕ) {forward back : List ℕ} → (length forward ≡ mostWidth) × ((x : ℕ) → x < mostWidth → getD forward x 0 ≡ x)

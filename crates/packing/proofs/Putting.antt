@@ -16,10 +16,12 @@ use Rattle.network.proofs.Performs.{setting-bit}
 use Rattle.tables.specs.Terms.{cycles, addressBits, depth, switchBits, addressRow, lineBits, fileLength}
 use Rattle.tables.specs.Format.{lineAt}
 use Rattle.tables.specs.Generated.{portOf, writeOf, setBits}
+use Rattle.tables.specs.Header.{headerOf, headerBits}
+use Rattle.tables.proofs.Header.{header-words, header-width, header-zeros}
 use Rattle.tables.proofs.Dims.{lineAt-zero, lineAt-suc, lineAt-order, fileLength-reaches}
-use Rattle.tables.proofs.SetBits.{setBits-words, setBits-width, setBits-zeros, setBits-past, setBits-read, setBits-switch, setBits-write}
-use Rattle.tables.proofs.Written.{Written, written-none, written-field, written-zeros}
-use Rattle.packing.specs.Packing.{putFields, putHeader, putLine, putFilling}
+use Rattle.tables.proofs.SetBits.{setBits-header, setBits-past, setBits-read, setBits-switch, setBits-write}
+use Rattle.tables.proofs.Written.{Written, written-none, written-field, written-zeros, written-ext}
+use Rattle.packing.specs.Packing.{putFields, putLine, putFilling}
 
 -- a row of fields
 pub fields-written : {bits before file : List ℕ} {at : ℕ} (k : ℕ) (values : List ℕ) (m : ℕ) → Written bits before file at
@@ -36,15 +38,22 @@ fields-written {bits} {before} {file} {at} k values (suc m) W fits same =
     (written-field k (getD values m 0) (fields-written k values m W (omega arith) (λ i j l q. same i j (omega arith) q)) (omega arith)
     (λ j l. same m j (omega arith) l))
 
+-- the header's three fields
+pub header-put : (n w : ℕ) {before first second third : List ℕ} → Bytes before → 3 ≤ length before → first ≡ putField before 0 13 n
+    → second ≡ putField first 13 7 w → third ≡ putField second 20 4 0 → Written (headerOf n w) before third (headerBits n)
+unfolding headerBits
+header-put n w B fits a b c =
+    rw (c, b, a)
+    (written-field 4 0
+    (written-field 7 w (written-field 13 n (written-none B) (omega arith) (λ j l. ap (λ (z : ℕ). getD (headerOf n w) z 0) (zero-add j) ∙ header-words n w j l))
+    (omega arith) (header-width n w))
+    (omega arith) (header-zeros n w))
+
 module _ (n w : ℕ) (p : ℕ → ℕ) (reads : ℕ → ℕ → ℕ) (before : List ℕ) where
-  pub header-written : Bytes before → 3 ≤ length before → Written (setBits n w p reads) before (putHeader before n w) (lineAt n w 0)
-  unfolding putHeader
-  header-written B fits =
-      rw (lineAt-zero n w)
-      (written-zeros 4
-      (written-field 7 w (written-field 13 n (written-none B) (omega arith) (λ j l. ap (λ (z : ℕ). getD (setBits n w p reads) z 0) (zero-add j) ∙ setBits-words n w p reads j l)) (omega arith)
-      (setBits-width n w p reads))
-      (omega arith) (setBits-zeros n w p reads))
+  -- a buffer that begins with the header
+  pub header-written : {file : List ℕ} → Written (headerOf n w) before file (headerBits n)
+      → Written (setBits n w p reads) before file (lineAt n w 0)
+  header-written W = rw (lineAt-zero n w) (written-ext (λ i l. sym (setBits-header n w p reads i l)) W)
 
   pub filling-written : {file : List ℕ} → fileLength n w ≤ length before
       → Written (setBits n w p reads) before file (lineAt n w (cycles n w))

@@ -1,18 +1,23 @@
-// Puts a table set into a lent buffer, part by part. Only our own crates call these functions, so they may have a `requires`.
+// Puts a table set into a lent buffer: `begin`, `put_line` for each line, `end`, all by one writer. Only our own crates call these functions, so they may have a `requires`.
 ghost use mathlib.Core.Path.{_≡_};
 ghost use Prim.Native.Nat.{ℕ, _+_, _*_, _^_, _%_, _<_, _≤_};
 ghost use lib.ListN.{length, getD, take};
 ghost use Rattle.limits.specs.Limits.{mostWords, mostWidth, mostSwitches};
 ghost use Rattle.laws.specs.Permutation.{Injective};
+ghost use Rattle.images.specs.Images.{orderOf};
 ghost use Rattle.network.specs.Setting.{setting};
-ghost use Rattle.network.specs.Steps.{Inverses};
+ghost use Rattle.network.specs.inner.Steps.{Inverses};
 ghost use Rattle.network.specs.Calls.{Sized};
-ghost use Rattle.bits.specs.Writing.{Open, placeOf, wholeOf};
-ghost use Rattle.tables.specs.Terms.{Dims, depth, fileLength};
-ghost use Rattle.tables.specs.Format.{shapeOf};
-ghost use Rattle.tables.specs.Generated.{numberAt};
-ghost use Rattle.packing.specs.Packing.{putFields, putHeader, putLine, putFilling, Blank, Planned, Wired, Ready};
+ghost use Rattle.bits.specs.inner.Writing.{Open, positionOf, wholeOf};
+ghost use Rattle.tables.specs.Header.{headerOf, headerBits};
+ghost use Rattle.tables.specs.Terms.{cycles, depth, fileLength};
+ghost use Rattle.tables.specs.Format.{lineAt, Shaped};
+ghost use Rattle.tables.specs.inner.Buffers.{Written};
+ghost use Rattle.bits.specs.Bits.{numberAt};
+ghost use Rattle.packing.specs.Packing.{putFields, putLine, putFilling};
+ghost use Rattle.packing.specs.inner.Plans.{Blank, Planned, Wired, Ready};
 use bits::Writer;
+use images::image_at;
 use limits::MOST_WIDTH;
 use tables::Shape;
 
@@ -25,8 +30,8 @@ fn put_addresses(
     count: usize,
 ) -> Writer
     requires { ⌜ (width ≤ 16) × (count ≤ length (now values)) × ((i : ℕ) → i < count → getD (now values) i 0 < 2 ^ width) ⌝ }
-    requires { ⌜ Open writer × (placeOf writer + count * width ≤ 8 * length (now file)) ⌝ }
-    ensures { λ r. ⌜ Open r × (placeOf r ≡ placeOf writer + count * width) × (wholeOf (now (file .exit)) r ≡ putFields (wholeOf (now (file .entry)) writer) (placeOf writer) width (now (values .entry)) count) ⌝ }
+    requires { ⌜ Open writer × (positionOf writer + count * width ≤ 8 * length (now file)) ⌝ }
+    ensures { λ r. ⌜ Open r × (positionOf r ≡ positionOf writer + count * width) × (wholeOf (now (file .exit)) r ≡ putFields (wholeOf (now (file .entry)) writer) (positionOf writer) width (now (values .entry)) count) ⌝ }
 {
     let mut current = writer;
     let mut i = 0;
@@ -55,8 +60,8 @@ fn number_of(values: &[u8], from: usize, count: usize) -> u16
 // The bits, 16 in a field, since one field of 16 bits is cheaper than 16 fields of one bit.
 fn put_bits(file: &mut [u8], writer: Writer, values: &[u8]) -> Writer
     requires { ⌜ (length (now values) ≤ mostSwitches) × ((i : ℕ) → i < length (now values) → getD (now values) i 0 < 2) ⌝ }
-    requires { ⌜ Open writer × (placeOf writer + length (now values) ≤ 8 * length (now file)) ⌝ }
-    ensures { λ r. ⌜ Open r × (placeOf r ≡ placeOf writer + length (now (values .entry))) × (wholeOf (now (file .exit)) r ≡ putFields (wholeOf (now (file .entry)) writer) (placeOf writer) 1 (now (values .entry)) (length (now (values .entry)))) ⌝ }
+    requires { ⌜ Open writer × (positionOf writer + length (now values) ≤ 8 * length (now file)) ⌝ }
+    ensures { λ r. ⌜ Open r × (positionOf r ≡ positionOf writer + length (now (values .entry))) × (wholeOf (now (file .exit)) r ≡ putFields (wholeOf (now (file .entry)) writer) (positionOf writer) 1 (now (values .entry)) (length (now (values .entry)))) ⌝ }
 {
     let mut current = writer;
     let mut i = 0;
@@ -68,24 +73,27 @@ fn put_bits(file: &mut [u8], writer: Writer, values: &[u8]) -> Writer
     bits::write(file, current, rest, number_of(values, i, rest))
 }
 
-// The header.
-pub fn put_header(file: &mut [u8], words: usize, width: usize)
-    requires { ⌜ (Dims words width) × (3 ≤ length (now file)) ⌝ }
-    ensures { λ _. ⌜ now (file .exit) ≡ putHeader (now (file .entry)) words width ⌝ }
+// Opens a set in a buffer: its header stands at the front, and the writer behind it.
+pub fn begin(file: &mut [u8], shape: Shape) -> Writer
+    requires { ⌜ Shaped shape × (fileLength (shape .words) (shape .width) ≤ length (now file)) ⌝ }
+    ensures { λ r. ⌜ Open r × (positionOf r ≡ headerBits (shape .words))
+        × Written (headerOf (shape .words) (shape .width)) (now (file .entry)) (wholeOf (now (file .exit)) r) (headerBits (shape .words)) ⌝ }
 {
-    bits::put_field(file, 0, 13, words as u16);
-    bits::put_field(file, 13, 7, width as u16);
-    bits::put_field(file, 20, 4, 0);
+    let start = bits::writer_at(file, 0);
+    let words = bits::write(file, start, 13, shape.words as u16);
+    let width = bits::write(file, words, 7, shape.width as u16);
+    bits::write(file, width, 4, 0)
 }
 
-// Zeros behind the last line, up to a whole byte.
-pub fn put_filling(file: &mut [u8], shape: Shape)
-    requires { ⌜ (Dims (shape .words) (shape .width)) × (shape ≡ shapeOf (shape .words) (shape .width)) ⌝ }
-    requires { ⌜ fileLength (shape .words) (shape .width) ≤ length (now file) ⌝ }
-    ensures { λ _. ⌜ now (file .exit) ≡ putFilling (shape .words) (shape .width) (now (file .entry)) ⌝ }
+// Closes a set whose lines are put: zeros up to a whole byte, and what the writer holds is stored.
+pub fn end(file: &mut [u8], writer: Writer, shape: Shape)
+    requires { ⌜ Shaped shape × (fileLength (shape .words) (shape .width) ≤ length (now file)) ⌝ }
+    requires { ⌜ Open writer × (positionOf writer ≡ lineAt (shape .words) (shape .width) (cycles (shape .words) (shape .width))) ⌝ }
+    ensures { λ _. ⌜ now (file .exit) ≡ putFilling (shape .words) (shape .width) (wholeOf (now (file .entry)) writer) ⌝ }
 {
     let end = shape.start + shape.cycles * shape.stride;
-    bits::put_field(file, end, 8 * tables::file_length(shape) - end, 0);
+    let filled = bits::write(file, writer, 8 * tables::file_length(shape) - end, 0);
+    bits::finish(file, filled);
 }
 
 // Plans the line in which the word of port k is `words[k]`: the address that each bank of the first memory reads, the line on which each line
@@ -103,7 +111,7 @@ pub fn plan_line(
     requires { ⌜ (0 < w) × (w ≤ mostWidth) × (length (now words) ≡ mostWidth) × Injective w (λ k. getD (now words) k 0 % w) ⌝ }
     requires { ⌜ ((k : ℕ) → k < w → (getD (now words) k 0 < length (now images)) × (getD (now words) k 0 < mostWords)) ⌝ }
     requires { ⌜ Blank w (now reads) (now forward) (now back) (now writes) ⌝ }
-    ensures { λ _. ⌜ Planned w (λ i. getD (now (images .entry)) i 0) (now (words .entry)) w (now (reads .exit)) (now (forward .exit)) (now (back .exit)) (now (writes .exit)) ⌝ }
+    ensures { λ _. ⌜ Planned w (orderOf (length (now (images .entry))) (now (images .entry))) (now (words .entry)) w (now (reads .exit)) (now (forward .exit)) (now (back .exit)) (now (writes .exit)) ⌝ }
 {
     let mut k = 0;
     while k < w {
@@ -112,7 +120,7 @@ pub fn plan_line(
         reads[bank] = (word / w) as u16;
         forward[bank] = k as u8;
         back[k] = bank as u8;
-        writes[k] = (images[word] as usize / w) as u16;
+        writes[k] = (image_at(images, word) / w) as u16;
         k += 1;
     }
 }
@@ -135,9 +143,9 @@ fn put_switches(
     back: &[u8],
     switches: &mut [u8],
 ) -> Writer
-    requires { ⌜ (Dims (shape .words) (shape .width)) × (shape ≡ shapeOf (shape .words) (shape .width)) × Wired (shape .width) (now forward) (now back) ⌝ }
-    requires { ⌜ Open writer × (placeOf writer + shape .switches ≤ 8 * length (now file)) × (length (now switches) ≡ mostSwitches) ⌝ }
-    ensures { λ r. ⌜ Open r × (placeOf r ≡ placeOf writer + shape .switches) × (wholeOf (now (file .exit)) r ≡ putFields (wholeOf (now (file .entry)) writer) (placeOf writer) 1 (setting (depth (shape .width)) (λ x. getD (now (forward .entry)) x 0)) (shape .switches)) × (length (now (switches .exit)) ≡ mostSwitches) ⌝ }
+    requires { ⌜ Shaped shape × Wired (shape .width) (now forward) (now back) ⌝ }
+    requires { ⌜ Open writer × (positionOf writer + shape .switches ≤ 8 * length (now file)) × (length (now switches) ≡ mostSwitches) ⌝ }
+    ensures { λ r. ⌜ Open r × (positionOf r ≡ positionOf writer + shape .switches) × (wholeOf (now (file .exit)) r ≡ putFields (wholeOf (now (file .entry)) writer) (positionOf writer) 1 (setting (depth (shape .width)) (λ x. getD (now (forward .entry)) x 0)) (shape .switches)) × (length (now (switches .exit)) ≡ mostSwitches) ⌝ }
 {
     if shape.switches == 0 {
         return writer;
@@ -162,9 +170,9 @@ pub fn put_line(
     writes: &[u16],
     switches: &mut [u8],
 ) -> Writer
-    requires { ⌜ (Dims (shape .words) (shape .width)) × (shape ≡ shapeOf (shape .words) (shape .width)) × Ready (shape .words) (shape .width) (now reads) (now forward) (now back) (now writes) ⌝ }
-    requires { ⌜ Open writer × (placeOf writer + shape .stride ≤ 8 * length (now file)) × (length (now switches) ≡ mostSwitches) ⌝ }
-    ensures { λ r. ⌜ Open r × (placeOf r ≡ placeOf writer + shape .stride) × (wholeOf (now (file .exit)) r ≡ putLine (shape .words) (shape .width) (wholeOf (now (file .entry)) writer) (placeOf writer) (now (reads .entry)) (now (forward .entry)) (now (writes .entry))) × (length (now (switches .exit)) ≡ mostSwitches) ⌝ }
+    requires { ⌜ Shaped shape × Ready (shape .words) (shape .width) (now reads) (now forward) (now back) (now writes) ⌝ }
+    requires { ⌜ Open writer × (positionOf writer + shape .stride ≤ 8 * length (now file)) × (length (now switches) ≡ mostSwitches) ⌝ }
+    ensures { λ r. ⌜ Open r × (positionOf r ≡ positionOf writer + shape .stride) × (wholeOf (now (file .exit)) r ≡ putLine (shape .words) (shape .width) (wholeOf (now (file .entry)) writer) (positionOf writer) (now (reads .entry)) (now (forward .entry)) (now (writes .entry))) × (length (now (switches .exit)) ≡ mostSwitches) ⌝ }
 {
     let read = put_addresses(file, writer, shape.address, reads, shape.width);
     let set = put_switches(file, read, shape, forward, back, switches);

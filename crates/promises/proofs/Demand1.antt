@@ -13,21 +13,22 @@ use Rattle.laws.specs.Tabulate.{overwrite}
 use Rattle.laws.proofs.Choices.{ifLt-cases, ifLe-cases, ifEq-cases, choose-cases}
 use Rattle.laws.proofs.Tabulates.{length-overwrite, getD-overwrite-past}
 use Rattle.refusal.specs.declared.Refusal.{Refusal}
-use Rattle.images.specs.Images.{checkOf}
+use Rattle.images.specs.Images.{checkOf, orderOf}
 use Rattle.images.specs.declared.Checked.{Checked}
 use Rattle.images.specs.declared.Checked.the-variants.{Permutation, Refused as Unfit}
 use Rattle.network.specs.Network.{bitCount}
 use Rattle.network.specs.Setting.{setting}
 use Rattle.network.specs.Calls.{depthOf, Outcome, outcome, written, setOf}
 use Rattle.tables.specs.Terms.{Dims, cycles, fileLength}
-use Rattle.tables.specs.Format.{headerWords, headerWidth, shapeOf, openOf}
+use Rattle.tables.specs.Header.{headerWords, headerWidth}
+use Rattle.tables.specs.Format.{shapeOf, openOf}
 use Rattle.tables.specs.Datapath.{readStrays, carryStrays, writeStrays, strays}
 use Rattle.tables.specs.Reading.{readOf, outcome as read}
 use Rattle.tables.specs.Generated.{setOf as generatedSet}
 use Rattle.tables.specs.declared.Opened.the-variants.{Set}
 use Rattle.tables.specs.declared.Reading.the-variants.{Read, Refused as Unread}
 use Rattle.tables.proofs.Form.{open-cases}
-use Rattle.tables.proofs.Packed.{getD-behind}
+use Rattle.laws.proofs.Joins.{getD-behind}
 use Rattle.tables.proofs.SetBits.{length-setOf}
 use Rattle.tables.proofs.Within.{strays-within}
 use Rattle.tables.proofs.Exact.{read-cases}
@@ -116,10 +117,10 @@ module _ (n w : ℕ) (images file scratch : List ℕ) (answer : Generation) (fil
   generate-told Permutation h =
       let A = G .generated h in
       let F = A .1 in
-      let p : ℕ → ℕ = λ i. getD images i 0 in
+      let p : ℕ → ℕ = orderOf n images in
       inr (
         A .0,
-        rw (F .written) (only-front (fileLength n w) (generatedSet n w p (F .reads)) file (length-setOf n w p (F .reads)) (checks-passed n w images (length file) (length scratch) h .roomy)),
+        rw (F .made .written) (only-front (fileLength n w) (generatedSet n w p (F .made .reads)) file (length-setOf n w p (F .made .reads)) (checks-passed n w images (length file) (length scratch) h .roomy)),
         record { long = F .scratch-long; behind = F .scratch-kept },
       )
 

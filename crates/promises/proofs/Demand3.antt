@@ -4,8 +4,9 @@
 use Prim.Native.Nat.{ℕ, _*_, _≤_}
 use mathlib.Core.Path.{_≡_, refl, sym, ap, subst, _∙_}
 use mathlib.Core.List.{List, [], _∷_, _++_}
-use lib.ListN.{length, getD, take, drop}
+use lib.ListN.{length, take, drop}
 use Rattle.laws.specs.Tabulate.{overwrite}
+use Rattle.images.specs.Images.{orderOf}
 use Rattle.tables.specs.Terms.{fileLength}
 use Rattle.tables.specs.Generated.{setOf}
 use Rattle.tables.specs.Reading.{outcome, readOf}
@@ -28,10 +29,10 @@ use Rattle.generator.specs.declared.Generation.the-variants.{Written}
 -- that hold anything, the machine is the plain rule for that permutation
 pub sets-stream : (file images scratch images′ : List ℕ) {n w : ℕ} → readOf file images scratch ≡ outcome (Read n w) images′
     → (first second : List ℕ) → 2 * n ≤ length first → 2 * n ≤ length second → (steps : List Feed)
-    → run (machine file) (record { clock = fresh; first = first; second = second }) steps ≡ run (plain n w (λ i. getD images′ i 0)) empty steps
-sets-stream file images scratch images′ h =
+    → run (machine file) (record { clock = fresh; first = first; second = second }) steps ≡ run (plain n w (orderOf n images′)) empty steps
+sets-stream file images scratch images′ {n} h =
     let known = read-performs file images scratch h in
-    machine-is-plain file (λ i. getD images′ i 0) (known .opened) (known .performs)
+    machine-is-plain file (orderOf n images′) (known .opened) (known .performs)
 
 -- what the answer of generating and the lent file afterwards are good for
 pub record Good (n w : ℕ) (images : List ℕ) (answer : Generation) (made : List ℕ) : Type 0 where
@@ -40,10 +41,10 @@ pub record Good (n w : ℕ) (images : List ℕ) (answer : Generation) (made : Li
   pub long : length made ≡ fileLength n w
   -- it reads as the permutation
   pub reads : (out scratch : List ℕ) → n ≤ length out → 2 * n ≤ length scratch
-      → readOf made out scratch ≡ outcome (Read n w) (overwrite n (λ i. getD images i 0) out)
+      → readOf made out scratch ≡ outcome (Read n w) (overwrite n (orderOf n images) out)
   -- and over any list of steps, from a fresh clock and two memories of 2n words or more that hold anything, the machine is the plain rule
   pub streams : (first second : List ℕ) → 2 * n ≤ length first → 2 * n ≤ length second → (steps : List Feed)
-      → run (machine made) (record { clock = fresh; first = first; second = second }) steps ≡ run (plain n w (λ i. getD images i 0)) empty steps
+      → run (machine made) (record { clock = fresh; first = first; second = second }) steps ≡ run (plain n w (orderOf n images)) empty steps
 
 -- `Passed` says that n and w keep their limits, the images are a permutation, and the memory that generating needs is lent
 abbrev pub Streaming : Type 0
@@ -58,30 +59,30 @@ take-front (x ∷ xs) ys = ap (λ (r : List ℕ). x ∷ r) (take-front xs ys)
 
 -- as many bytes of the lent file as the set has are the set
 pub front : {n w : ℕ} {images file scratch file′ scratch′ : List ℕ} (F : Filled n w images file scratch file′ scratch′)
-    → take (fileLength n w) file′ ≡ setOf n w (λ i. getD images i 0) (F .reads)
+    → take (fileLength n w) file′ ≡ setOf n w (orderOf n images) (F .made .reads)
 front {n} {w} {images} {file} F =
-    let made : List ℕ = setOf n w (λ i. getD images i 0) (F .reads) in
+    let made : List ℕ = setOf n w (orderOf n images) (F .made .reads) in
     let rest : List ℕ = drop (fileLength n w) file in
-    ap (take (fileLength n w)) (F .written)
-    ∙ subst (λ (z : ℕ). take z (made ++ rest) ≡ made) (length-setOf n w (λ i. getD images i 0) (F .reads)) (take-front made rest)
+    ap (take (fileLength n w)) (F .made .written)
+    ∙ subst (λ (z : ℕ). take z (made ++ rest) ≡ made) (length-setOf n w (orderOf n images) (F .made .reads)) (take-front made rest)
 
 pub demand-3 : Streaming
 demand-3 n w images file scratch answer file′ scratch′ R G =
     let A = G .generated (passed-checks R) in
     let F = A .1 in
-    let long : length (setOf n w (λ i. getD images i 0) (F .reads)) ≡ fileLength n w = length-setOf n w (λ i. getD images i 0) (F .reads) in
+    let long : length (setOf n w (orderOf n images) (F .made .reads)) ≡ fileLength n w = length-setOf n w (orderOf n images) (F .made .reads) in
     rw (front F) (record {
       accepted = A .0 ∙ ap Written (sym long);
       long = long;
-      reads = λ out memory l m. generated-reads out memory (R .dims) (R .permutes) (F .schedule) l m;
-      streams = generated-is-plain (R .dims) (R .permutes) (F .schedule);
+      reads = λ out memory l m. generated-reads out memory (R .dims) (R .permutes) (F .made .schedule) l m;
+      streams = generated-is-plain (R .dims) (R .permutes) (F .made .schedule);
     })
 
 -- The same of `lentMachine`, which is made of `lentStep`, which the contract of `machine::step_lent` cites: the clock stays lent, and each step
 -- alters it where it stands.
 pub sets-stream-lent : (file images scratch images′ : List ℕ) {n w : ℕ} → readOf file images scratch ≡ outcome (Read n w) images′
     → (first second : List ℕ) → 2 * n ≤ length first → 2 * n ≤ length second → (steps : List Feed)
-    → run (lentMachine file) (record { clock = fresh; first = first; second = second }) steps ≡ run (plain n w (λ i. getD images′ i 0)) empty steps
+    → run (lentMachine file) (record { clock = fresh; first = first; second = second }) steps ≡ run (plain n w (orderOf n images′)) empty steps
 sets-stream-lent file images scratch images′ h first second long long′ steps =
     lent-run file _ steps ∙ sets-stream file images scratch images′ h first second long long′ steps
 
@@ -90,7 +91,7 @@ StreamingLent = (n w : ℕ) (images file scratch : List ℕ) (answer : Generatio
     → Passed n w images (length file) (length scratch) → Generates n w images file scratch answer file′ scratch′
     → (first second : List ℕ) → 2 * n ≤ length first → 2 * n ≤ length second → (steps : List Feed)
     → run (lentMachine (take (fileLength n w) file′)) (record { clock = fresh; first = first; second = second }) steps
-    ≡ run (plain n w (λ i. getD images i 0)) empty steps
+    ≡ run (plain n w (orderOf n images)) empty steps
 
 pub demand-3-lent : StreamingLent
 demand-3-lent n w images file scratch answer file′ scratch′ R G first second long long′ steps =

@@ -2,24 +2,25 @@
 use Prim.Native.Nat.{ℕ, _+_}
 use mathlib.Core.Path.{_≡_, refl}
 use mathlib.Core.List.{List, [], _∷_, map}
-use lib.ListN.{getD, replicate}
+use lib.ListN.{replicate}
 use Rattle.laws.specs.Choice.{ifLt, ifLe, ifEq}
 use Rattle.laws.specs.Any.{any}
-use Rattle.laws.specs.Tabulate.{tabulate, overwrite}
+use Rattle.laws.specs.Tabulate.{tabulate, overwrite, joined}
 use Rattle.laws.specs.Permutation.{inverse}
-use Rattle.bits.specs.Bits.{digit, bit, field}
+use Rattle.bits.specs.Bits.{digit, bit, field, digits, numberAt, packed}
 use Rattle.network.specs.Network.{bitCount, leaves}
 use Rattle.network.specs.Setting.{next, rank, least, chosen, setting}
 use Rattle.network.specs.Carried.{carried}
 use Rattle.refusal.specs.Refusals.{numberOf, placeOf}
-use Rattle.images.specs.Images.{earlier, checkFrom, checkOf}
+use Rattle.images.specs.Images.{earlier, checkFrom, checkOf, orderOf}
 use Rattle.images.specs.declared.Checked.{Checked}
 use Rattle.images.specs.declared.Checked.the-variants.{Permutation, Refused as Faulty}
-use Rattle.generator.specs.Generating.{scratchNeed, checksOf}
-use Rattle.tables.specs.Terms.{cycles, addressBits, depth, logFrom, logUp, switchBits, addressRow, lineBits, headerBits, fileLength}
-use Rattle.tables.specs.Format.{headerWords, headerWidth, headerZeros, lineAt, readAddress, switchBit, writeAddress, filling, shapeOf, headerTest, lengthTest, openOf}
+use Rattle.generator.specs.Generating.{scratchNeed, lentTest, checksOf}
+use Rattle.tables.specs.Terms.{cycles, addressBits, depth, logFrom, logUp, switchBits, addressRow, lineBits, limitTest, fileLength}
+use Rattle.tables.specs.Header.{headerOf, headerBits, headerWords, headerWidth, headerZeros}
+use Rattle.tables.specs.Format.{lineAt, readAddress, switchBit, writeAddress, filling, shapeOf, headerTest, lengthTest, openOf}
 use Rattle.tables.specs.Datapath.{carriedTo, target, readStrays, carryStrays, writeStrays}
-use Rattle.tables.specs.Generated.{wordOf, portOf, writeOf, digits, joined, lineOf, setBits, numberAt, packed, setOf}
+use Rattle.tables.specs.Generated.{wordOf, portOf, writeOf, lineOf, setBits, setOf}
 use Rattle.tables.specs.Reading.{Outcome, outcome, readFault, writeFault, scanLines, imageOf, readLines, readOpened, readOf}
 use Rattle.tables.specs.declared.Reading.the-variants.{Read, Refused}
 use Rattle.machine.specs.Devices.{Feed, feed, Seen, seen, filling as fillingSaid, wrote, refused, run}
@@ -60,10 +61,10 @@ checked (Faulty r) = turnedDown (numberOf r) (placeOf r)
 pub answer : Question → Reply
 answer (generating n w images) = checked (checksOf n w images (fileLength n w) (scratchNeed n))
 answer (reading n file) = told (readOf file (replicate n 0) (replicate (n + n) 0))
-answer (making n w images) = bytes (setOf n w (λ i. getD images i 0) noReads)
+answer (making n w images) = bytes (setOf n w (orderOf n images) noReads)
 answer (stepping n file steps) =
     shows (run (machine file) (record { clock = fresh; first = replicate (n + n) 0; second = replicate (n + n) 0 }) steps)
-answer (reordering n w images steps) = shows (run (plain n w (λ i. getD images i 0)) empty steps)
+answer (reordering n w images steps) = shows (run (plain n w (orderOf n images)) empty steps)
 
 pub record Example : Type 0 where
   pub question : Question
@@ -146,5 +147,5 @@ examples =
     ∷ []
 
 pub examples-hold : map (λ (e : Example). answer (e .question)) examples ≡ map (λ (e : Example). e .reply) examples
-unfolding examples order12 set12 enters steps12 fills shown12 noReads asks answer told checked checksOf scratchNeed checkOf checkFrom earlier ifLt ifLe ifEq any tabulate overwrite inverse digit bit field bitCount leaves cycles addressBits depth logFrom logUp switchBits addressRow lineBits headerBits fileLength headerWords headerWidth headerZeros lineAt readAddress switchBit writeAddress filling shapeOf headerTest lengthTest openOf carriedTo target carryStrays readFault writeFault scanLines imageOf readLines readOpened readOf wordOf portOf writeOf digits joined lineOf setBits numberAt packed setOf next rank least chosen setting carried readStrays writeStrays run machine carded said clockAfter stepOf stepOpened stepLine clockTest lineTest stepAccepted entering moving leaving nextClock fresh spot plain took turned given empty
+unfolding limitTest lentTest headerOf examples order12 set12 enters steps12 fills shown12 noReads asks answer told checked checksOf scratchNeed checkOf checkFrom earlier ifLt ifLe ifEq any tabulate overwrite inverse digit bit field bitCount leaves cycles addressBits depth logFrom logUp switchBits addressRow lineBits headerBits fileLength headerWords headerWidth headerZeros lineAt readAddress switchBit writeAddress filling shapeOf headerTest lengthTest openOf carriedTo target carryStrays readFault writeFault scanLines imageOf readLines readOpened readOf wordOf portOf writeOf digits joined lineOf setBits numberAt packed setOf next rank least chosen setting carried readStrays writeStrays run machine carded said clockAfter stepOf stepOpened stepLine clockTest lineTest stepAccepted entering moving leaving nextClock fresh spot plain took turned given empty
 examples-hold = refl

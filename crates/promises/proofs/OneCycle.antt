@@ -4,7 +4,8 @@ use Prim.Native.Nat.{ℕ}
 use mathlib.Core.Path.{_≡_, _∙_}
 use mathlib.Core.List.{List}
 use native.Mathlib.Omega.{arith}
-use lib.ListN.{length, getD, take}
+use lib.ListN.{length, take}
+use Rattle.images.specs.Images.{orderOf}
 use Rattle.tables.specs.Terms.{cycles, fileLength}
 use Rattle.tables.specs.Generated.{setOf}
 use Rattle.tables.proofs.Prefix.{setOf-ext}
@@ -19,10 +20,10 @@ noReads t b = 0
 
 pub one-cycle : (n w : ℕ) (images file scratch : List ℕ) (answer : Generation) (file′ scratch′ : List ℕ) → cycles n w ≡ 1
     → Passed n w images (length file) (length scratch) → Generates n w images file scratch answer file′ scratch′
-    → take (fileLength n w) file′ ≡ setOf n w (λ i. getD images i 0) noReads
+    → take (fileLength n w) file′ ≡ setOf n w (orderOf n images) noReads
 unfolding noReads
 one-cycle n w images file scratch answer file′ scratch′ single R G =
     let F = G .generated (passed-checks R) .1 in
     front F
-    ∙ setOf-ext (R .dims .wide) n (λ i. getD images i 0) (F .reads) noReads
-    (λ t b l m. omega (arith, F .schedule .below t b l m, single))
+    ∙ setOf-ext (R .dims .wide) n (orderOf n images) (F .made .reads) noReads
+    (λ t b l m. omega (arith, F .made .schedule .below t b l m, single))

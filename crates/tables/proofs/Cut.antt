@@ -1,6 +1,6 @@
 -- A file may be cut behind 12,292 bytes or more: what is left opens and reads as the whole does. The longest set has 12,291 bytes, so a
 -- longer file is refused in opening, by its header (7) or by its length (8); and the header lies in the first three bytes.
-use Prim.Native.Nat.{ℕ, _%_, _≤_}
+use Prim.Native.Nat.{ℕ, _≤_}
 use mathlib.Core.Path.{_≡_, refl, sym, ap, _∙_}
 use mathlib.Core.List.{List}
 use mathlib.Core.Logic.{⊎-elim}
@@ -8,12 +8,13 @@ use native.Mathlib.Omega.{arith}
 use native.Mathlib.Decide.{decLe}
 use lib.ListN.{length, take}
 use lib.Seq.{length-take-le, take-all}
-use Rattle.limits.specs.Limits.{mostWords, mostWidth}
-use Rattle.laws.proofs.Choices.{ifLt-no, ifLt-yes, ifLt-both, ifEq-both}
+use Rattle.laws.proofs.Choices.{ifLt-no, ifLt-yes, ifEq-both}
 use Rattle.bits.proofs.Fields.{field-take}
-use Rattle.refusal.specs.declared.Refusal.the-variants.{FileLong}
+use Rattle.refusal.specs.declared.Refusal.the-variants.{Header, FileLong}
 use Rattle.tables.specs.Terms.{fileLength}
-use Rattle.tables.specs.Format.{headerWords, headerWidth, headerZeros, limitTest, headerTest, lengthTest, openOf}
+use Rattle.tables.specs.Header.{leastHeader, headerWords, headerWidth, headerZeros}
+use Rattle.tables.specs.Format.{headerTest, lengthTest, openOf}
+use Rattle.tables.proofs.LimitTests.{limit-both}
 use Rattle.tables.specs.Reading.{readOf}
 use Rattle.tables.specs.declared.Opened.{Opened}
 use Rattle.tables.specs.declared.Opened.the-variants.{Refused}
@@ -22,26 +23,17 @@ use Rattle.tables.proofs.Longest.{fileLength-longest}
 use Rattle.tables.proofs.Form.{open-cases}
 use Rattle.tables.proofs.Exact.{read-unopened}
 
--- what follows the limits is asked for valid dimensions only
-limits-ext : (n w zeros : ℕ) (next other : Opened) → (Dims n w → next ≡ other) → limitTest n w zeros next ≡ limitTest n w zeros other
-limits-ext n w zeros next other same =
-    ifLt-both Same n 1 _ _ _ _ (λ _. refl) λ some.
-    ifLt-both Same mostWords n _ _ _ _ (λ _. refl) λ few.
-    ifLt-both Same w 1 _ _ _ _ (λ _. refl) λ wide.
-    ifLt-both Same mostWidth w _ _ _ _ (λ _. refl) λ narrow.
-    ifEq-both Same (n % w) 0 _ _ _ _ (λ even.
-    ifEq-both Same zeros 0 _ _ _ _ (λ _. same (record { some = some; few = few; wide = wide; narrow = narrow; even = even })) (λ _. refl))
-    (λ _. refl)
-  where
-    Same : Opened → Opened → Type 0
-    Same x y = x ≡ y
-
 -- a file longer than every set is judged by its header alone
 open-beyond : (file : List ℕ) → 12292 ≤ length file → openOf file ≡ headerTest file (Refused FileLong)
 unfolding openOf headerTest lengthTest
 open-beyond file long =
-    sym (ifLt-no (length file) 3 _ _ _ (omega arith) (limits-ext n w (headerZeros file) (Refused FileLong) _ beyond))
+    sym (ifLt-no (length file) leastHeader _ _ _ (omega arith)
+    (limit-both Same n w (λ _. Refused Header) _ (λ _. Refused Header) _ (λ _. refl)
+    (λ D. ifEq-both Same (headerZeros file) 0 _ _ _ _ (λ _. beyond D) (λ _. refl))))
   where
+    Same : Opened → Opened → Type 0
+    Same x y = x ≡ y
+
     n : ℕ
     n = headerWords file
 

@@ -11,7 +11,8 @@ use Rattle.limits.specs.Limits.{mostWords, mostWidth, mostSwitches}
 use Rattle.laws.proofs.Choices.{ifLe-cases}
 use Rattle.network.specs.Network.{bitCount}
 use Rattle.network.proofs.Counts.{bitCount-mono}
-use Rattle.tables.specs.Terms.{logFrom, logUp, cycles, addressBits, depth, switchBits, addressRow, lineBits, headerBits, fileLength}
+use Rattle.tables.specs.Header.{headerBits, leastHeader}
+use Rattle.tables.specs.Terms.{logFrom, logUp, cycles, addressBits, depth, switchBits, addressRow, lineBits, fileLength}
 use Rattle.tables.specs.Format.{lineAt}
 pub use Rattle.tables.specs.Terms.{Dims}
 
@@ -122,8 +123,8 @@ pub addressRow-holds : (n w b : ℕ) → b < w → b * addressBits n w + address
 unfolding addressRow
 addressRow-holds n w b l = omega (arith, suc-mul b (addressBits n w), mul-le-mul-right {m = suc b} {n = w} (addressBits n w) l)
 
-pub lineAt-zero : (n w : ℕ) → lineAt n w 0 ≡ 24
-unfolding lineAt headerBits
+pub lineAt-zero : (n w : ℕ) → lineAt n w 0 ≡ headerBits n
+unfolding lineAt
 lineAt-zero n w = omega (arith, zero-mul (lineBits n w))
 
 pub lineAt-suc : (n w t : ℕ) → lineAt n w (t + 1) ≡ lineAt n w t + lineBits n w
@@ -149,6 +150,6 @@ pub fileLength-tight : (n w : ℕ) → 8 * fileLength n w < lineAt n w (cycles n
 unfolding fileLength lineAt headerBits
 fileLength-tight n w = omega arith
 
-pub fileLength-header : (n w : ℕ) → 3 ≤ fileLength n w
-unfolding fileLength
+pub fileLength-header : (n w : ℕ) → leastHeader ≤ fileLength n w
+unfolding fileLength headerBits
 fileLength-header n w = omega arith

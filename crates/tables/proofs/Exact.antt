@@ -15,7 +15,8 @@ use Rattle.laws.proofs.Tabulates.{getD-overwrite, overwrite-ext}
 use Rattle.refusal.specs.declared.Refusal.{Refusal}
 use Rattle.refusal.specs.declared.Refusal.the-variants.{BufferShort}
 use Rattle.tables.specs.Terms.{cycles}
-use Rattle.tables.specs.Format.{headerWords, headerWidth, shapeOf, openOf}
+use Rattle.tables.specs.Header.{headerWords, headerWidth}
+use Rattle.tables.specs.Format.{shapeOf, openOf}
 use Rattle.tables.specs.Datapath.{Performs}
 use Rattle.tables.specs.Reading.{outcome, scanLines, imageOf, readLines, readOpened, readOf}
 use Rattle.tables.specs.Generated.{Schedule, setOf}

@@ -22,8 +22,8 @@ use Rattle.tables.specs.Terms.{cycles, depth}
 use Rattle.tables.specs.Format.{readAddress, switchBit, writeAddress}
 use Rattle.tables.specs.Datapath.{carriedTo, source, target, carryStrays}
 use Rattle.tables.specs.Reading.{Outcome, readFault, writeFault, scanLines, imageOf}
-use Rattle.tables.specs.Lines.{Line}
-use Rattle.tables.specs.Gathering.{faulty, wordAt, placeAt, Gather, Markable, Marked}
+use Rattle.tables.specs.inner.Lines.{Line}
+use Rattle.tables.specs.inner.Gathering.{faulty, wordAt, placeAt, Gather, Markable, Marked}
 use Rattle.tables.proofs.Dims.{Dims, word-below, word-injective, depth-reaches}
 use Rattle.tables.proofs.Accepted.{Accepted, Passes, passes-accepted, accepted-scan, scan-passes}
 use Rattle.tables.proofs.Targets.{source-found}

@@ -16,10 +16,9 @@ use Rattle.laws.proofs.Permutations.{onto}
 use Rattle.network.specs.Network.{leaves}
 use Rattle.network.proofs.Leaves.{leaves-permutes}
 use Rattle.tables.specs.Terms.{cycles, depth}
-use Rattle.tables.specs.Format.{readAddress, switchBit, writeAddress, shapeOf}
-use Rattle.tables.specs.declared.Shape.{Shape}
+use Rattle.tables.specs.Format.{readAddress, switchBit, writeAddress}
 use Rattle.tables.specs.Datapath.{carriedTo, readStrays, carryStrays, writeStrays}
-use Rattle.tables.specs.Lines.{Line, spareUsed}
+use Rattle.tables.specs.inner.Lines.{Line, spareUsed}
 use Rattle.tables.proofs.Dims.{depth-reaches}
 
 pub carriedTo-permutes : (n w : ℕ) (file : List ℕ) (t : ℕ) → Permutes (2 ^ depth w) (carriedTo n w file t)
@@ -80,12 +79,3 @@ module _ {n w : ℕ} {file : List ℕ} {t : ℕ} {reads sources writes : List �
             | yes l ↦ absurd (omega (arith, q, leb-false w (carriedTo n w file t x) (any-false w (λ b. leb w (carriedTo n w file t b)) e x l)))
             | no l ↦ omega arith
           ]
-
--- the numbers of a shape
-pub shape-cycles : (s : Shape) → s ≡ shapeOf (s .words) (s .width) → s .cycles ≡ cycles (s .words) (s .width)
-unfolding shapeOf
-shape-cycles s e = ap (λ (z : Shape). z .cycles) e
-
-pub shape-lines : (s : Shape) → s ≡ shapeOf (s .words) (s .width) → s .lines ≡ 2 ^ depth (s .width)
-unfolding shapeOf
-shape-lines s e = ap (λ (z : Shape). z .lines) e

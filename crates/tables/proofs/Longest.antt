@@ -7,6 +7,7 @@ use native.Mathlib.Decide.{decLe}
 use native.Mathlib.Nat.{mul-assoc, mul-add, mul-le-mul, mul-le-mul-left}
 use Rattle.limits.specs.Limits.{mostWords}
 use Rattle.network.specs.Network.{bitCount}
+use Rattle.tables.specs.Header.{headerBits}
 use Rattle.tables.specs.Terms.{cycles, addressBits, depth, switchBits, addressRow, lineBits, fileLength}
 use Rattle.tables.proofs.Dims.{Dims, cycles-mul, logUp-least, depth-few}
 
@@ -63,5 +64,5 @@ module _ {n w : ℕ} (D : Dims n w) where
       by (suc (suc (suc (suc (suc (suc (suc d))))))) q = absurd (omega (arith, depth-few D))
 
   pub fileLength-longest : fileLength n w ≤ 12291
-  unfolding fileLength
+  unfolding fileLength headerBits
   fileLength-longest = omega (arith, lines-longest)

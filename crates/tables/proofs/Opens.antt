@@ -1,7 +1,7 @@
 -- What opening a set works out, as the code does: the least power of two that is large enough, found by counting digits; a shape, made of
 -- its parts and read part by part; and the tests of a header that was read.
 use Prim.Native.Nat.{ℕ, suc, _+_, _-_, _*_, _/_, _%_, _^_, _<_, _≤_}
-use mathlib.Core.Path.{_≡_, refl, ap, _∙_}
+use mathlib.Core.Path.{_≡_, refl, sym, ap, _∙_}
 use mathlib.Core.List.{List}
 use native.Mathlib.Omega.{arith}
 use native.Mathlib.Nat.{one-mul, pow-suc, pow-le-pow-right}
@@ -10,15 +10,20 @@ use lib.Count.{leadingZeros, leading-length}
 use lib.Dec.{lit<}
 use lib.ListN.{length}
 use lib.Pow.{shl-exact}
-use Rattle.limits.specs.Limits.{mostWidth, mostSwitches}
-use Rattle.laws.specs.Choice.{ifLt}
-use Rattle.laws.proofs.Choices.{ifLt-no}
-use Rattle.bits.specs.Bits.{field}
+use Rattle.limits.specs.Limits.{mostSwitches}
+use Rattle.laws.specs.Choice.{ifEq}
+use Rattle.laws.proofs.Choices.{ifLt-no, ifEq-yes, ifEq-no}
+use Rattle.refusal.specs.declared.Refusal.{Refusal}
+use Rattle.refusal.specs.declared.Refusal.the-variants.{Header}
 use Rattle.network.specs.Network.{bitCount}
-use Rattle.tables.specs.Terms.{Dims, logUp, cycles, addressBits, depth, switchBits, addressRow, lineBits, headerBits, fileLength}
-use Rattle.tables.specs.Format.{headerWords, headerWidth, headerZeros, lineAt, shapeOf, limitTest, headerTest, lengthTest, openOf}
+use Rattle.tables.specs.Header.{headerBits, leastHeader, headerWords, headerWidth, headerZeros}
+use Rattle.tables.specs.Terms.{Dims, limitTest, limitsOf, logUp, cycles, addressBits, depth, switchBits, addressRow, lineBits, fileLength}
+use Rattle.tables.specs.Format.{lineAt, shapeOf, Shaped, headerTest, lengthTest, openOf}
 use Rattle.tables.specs.declared.Shape.{Shape}
 use Rattle.tables.specs.declared.Opened.{Opened}
+use Rattle.tables.specs.declared.Opened.the-variants.{Refused}
+use Rattle.tables.specs.declared.Limits.the-variants.{Kept, Refused as Unkept}
+use Rattle.tables.proofs.LimitTests.{limit-cases, limit-passes, limits-kept, limits-refused}
 use Rattle.tables.proofs.Dims.{logUp-least, logUp-reaches, depth-few, addressRow-few, switchBits-few}
 
 -- ---- the least power of two that is large enough
@@ -30,8 +35,8 @@ log-up-digits x some fits = elim (decLe digits (logUp x)) [
   | no l ↦ absurd (omega (arith, found .3, logUp-reaches x, pow-suc 2 (logUp x), pow-le-pow-right {n = 2} (omega arith) (beyond l)))
 ]
   where
-    found : (m : ℕ) × (leadingZeros 64 (x - 1) + m ≡ mostWidth) × (x - 1 < 2 ^ m) × (2 ^ m ≤ 2 * (x - 1) + 1)
-    found = leading-length mostWidth (x - 1) fits
+    found : (m : ℕ) × (leadingZeros 64 (x - 1) + m ≡ 64) × (x - 1 < 2 ^ m) × (2 ^ m ≤ 2 * (x - 1) + 1)
+    found = leading-length 64 (x - 1) fits
 
     digits : ℕ
     digits = found .0
@@ -43,7 +48,7 @@ log-up-digits x some fits = elim (decLe digits (logUp x)) [
 
 -- `1 << d`, of 64 bits
 one-shl-wide : (d : ℕ) → d ≤ 6 → 1 * 2 ^ d % 2 ^ 64 ≡ 2 ^ d
-one-shl-wide d l = shl-exact {a = 1} 1 d mostWidth (lit< tt) (omega arith) ∙ one-mul (2 ^ d)
+one-shl-wide d l = shl-exact {a = 1} 1 d 64 (lit< tt) (omega arith) ∙ one-mul (2 ^ d)
 
 -- the parts as the code works them out: the bits of an address, the depth of the network and its switches
 module _ {n w a d s : ℕ} (D : Dims n w) (address : a ≡ logUp (n / w)) (deep : d ≡ logUp w) (switches : s ≡ bitCount d) where
@@ -66,11 +71,32 @@ module _ {n w a d s : ℕ} (D : Dims n w) (address : a ≡ logUp (n / w)) (deep 
   unfolding shapeOf cycles addressBits depth switchBits lineBits addressRow headerBits
   shape-made = let few : d ≤ 6 = rw deep (depth-few D) in rw (one-shl-wide d few, address, switches, deep)
 
+-- a shape is that of its own words and width
+pub shape-same : {s : Shape} → Shaped s → s ≡ shapeOf (s .words) (s .width)
+unfolding shapeOf
+shape-same S = rw (← S .cycles, ← S .address, ← S .lines, ← S .switches, ← S .start, ← S .stride) refl
+
 -- a shape of n words and width w, read part by part
 module _ {n w : ℕ} {s : Shape} (D : Dims n w) (e : s ≡ shapeOf n w) where
-  pub shape-own : Dims (s .words) (s .width) × (s ≡ shapeOf (s .words) (s .width))
+  pub shape-own : Shaped s
   unfolding shapeOf
-  shape-own = rw e (D, refl)
+  shape-own = rw e (record {
+    dims = D;
+    cycles = refl;
+    address = refl;
+    lines = refl;
+    switches = refl;
+    start = refl;
+    stride = refl;
+  })
+
+  pub shape-words : s .words ≡ n
+  unfolding shapeOf
+  shape-words = ap (λ (z : Shape). z .words) e
+
+  pub shape-width : s .width ≡ w
+  unfolding shapeOf
+  shape-width = ap (λ (z : Shape). z .width) e
 
   -- the bits of all lines, and where the last one ends
   pub shape-total : s .cycles * s .stride ≡ cycles n w * lineBits n w
@@ -82,9 +108,9 @@ module _ {n w : ℕ} {s : Shape} (D : Dims n w) (e : s ≡ shapeOf n w) where
   shape-end = ap (λ (z : Shape). z .start + z .cycles * z .stride) e
 
   -- the bytes of a set
-  pub shape-length : 3 + (s .cycles * s .stride + 7) / 8 ≡ fileLength n w
-  unfolding fileLength
-  shape-length = ap (λ (z : ℕ). 3 + (z + 7) / 8) shape-total
+  pub shape-length : s .start / 8 + (s .cycles * s .stride + 7) / 8 ≡ fileLength n w
+  unfolding fileLength shapeOf
+  shape-length = ap (λ (z : Shape). z .start / 8 + (z .cycles * z .stride + 7) / 8) e
 
   pub shape-fileLength : fileLength (s .words) (s .width) ≡ fileLength n w
   unfolding shapeOf
@@ -92,11 +118,22 @@ module _ {n w : ℕ} {s : Shape} (D : Dims n w) (e : s ≡ shapeOf n w) where
 
 -- ---- a header
 
--- the tests of a file of three bytes or more, where its header says n, w and z
-abbrev pub readTest : ℕ → ℕ → ℕ → List ℕ → Opened
-readTest n w z file = limitTest n w z (lengthTest n w file)
+-- the tests of a file with a header that says n and w, and z in its last bits: none of them, where z is not 0 or a limit is broken, else
+-- those of the whole file
+module _ {n w z : ℕ} (file : List ℕ) (words : n ≡ headerWords file) (width : w ≡ headerWidth file) (zeros : z ≡ headerZeros file)
+    (long : leastHeader ≤ length file) where
+  opened : openOf file ≡ limitTest n w (λ _. Refused Header) (ifEq z 0 (lengthTest n w file) (Refused Header))
+  unfolding openOf headerTest
+  opened = rw (words, width, zeros) (sym (ifLt-no (length file) leastHeader _ _ _ long refl))
 
-pub header-read : {n w z : ℕ} {r : Opened} (file : List ℕ) → n ≡ field file 0 13 → w ≡ field file 13 7 → z ≡ field file 20 4 → 3 ≤ length file
-    → r ≡ readTest n w z file → r ≡ openOf file
-unfolding openOf headerTest headerWords headerWidth headerZeros
-header-read file p q o l h = ifLt-no (length file) 3 _ _ _ l (rw (p, q, o) at h)
+  pub opened-zeros : (z ≡ 0 → ⊥) → openOf file ≡ Refused Header
+  opened-zeros set =
+      opened
+      ∙ limit-cases (λ (o : Opened). o ≡ Refused Header) n w (λ _. Refused Header) _ (λ _. refl) (λ _. sym (ifEq-no z 0 _ _ _ set refl))
+
+  pub opened-broken : (r : Refusal) → limitsOf n w ≡ Unkept r → openOf file ≡ Refused Header
+  opened-broken r broken = opened ∙ limits-refused n w r (λ _. Refused Header) _ broken
+
+  pub opened-kept : z ≡ 0 → limitsOf n w ≡ Kept → openOf file ≡ lengthTest n w file
+  opened-kept clear kept =
+      opened ∙ limit-passes (λ _. Refused Header) _ (limits-kept n w kept) ∙ sym (ifEq-yes z 0 _ _ _ clear refl)

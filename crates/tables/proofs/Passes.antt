@@ -14,7 +14,7 @@ use Rattle.network.specs.Calls.{Sized, Routed}
 use Rattle.network.proofs.Leaves.{leaves-ext, leaves-below}
 use Rattle.tables.specs.Terms.{Dims, cycles, depth, switchBits, addressRow}
 use Rattle.tables.specs.Format.{lineAt, shapeOf}
-use Rattle.tables.specs.Lines.{Addresses, Switches, Sources, Line}
+use Rattle.tables.specs.inner.Lines.{Addresses, Switches, Sources, Line}
 use Rattle.tables.specs.declared.Shape.{Shape}
 use Rattle.tables.proofs.Dims.{addressBits-few, lines-few, switchBits-few, addressRow-few, lineAt-few}
 

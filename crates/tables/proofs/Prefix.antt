@@ -12,10 +12,13 @@ use Rattle.laws.proofs.Choices.{ifEq-cases}
 use Rattle.laws.proofs.Permutations.{inverse-ext}
 use Rattle.network.specs.Setting.{setting}
 use Rattle.network.proofs.Carried.{carried-ext}
-use Rattle.tables.specs.Terms.{cycles, addressBits, depth, lineBits, headerBits}
+use Rattle.tables.specs.Terms.{cycles, addressBits, depth, lineBits}
+use Rattle.tables.specs.Header.{headerBits}
 use Rattle.tables.specs.Format.{lineAt}
-use Rattle.tables.specs.Generated.{wordOf, portOf, writeOf, digits, joined, lineOf, setBits, setOf}
-use Rattle.tables.proofs.SetBits.{switchesOf, setBits-words, setBits-width, setBits-zeros, setBits-line}
+use Rattle.laws.specs.Tabulate.{joined}
+use Rattle.bits.specs.Bits.{digits}
+use Rattle.tables.specs.Generated.{wordOf, portOf, writeOf, lineOf, setBits, setOf}
+use Rattle.tables.proofs.SetBits.{switchesOf, setBits-header, setBits-line}
 
 joined-ext : (k : ℕ) (f g : ℕ → List ℕ) → ((i : ℕ) → i < k → f i ≡ g i) → joined k f ≡ joined k g
 unfolding joined
@@ -65,18 +68,12 @@ module _ {w : ℕ} (wide : 0 < w) (n : ℕ) (p : ℕ → ℕ) (f g : ℕ → ℕ
   -- read lines that agree before line t
   pub setBits-prefix : (t : ℕ) → t ≤ cycles n w → ((s b : ℕ) → s < t → b < w → f s b ≡ g s b)
       → (i : ℕ) → i < lineAt n w t → getD (setBits n w p f) i 0 ≡ getD (setBits n w p g) i 0
-  unfolding lineAt headerBits
-  setBits-prefix t few same i l = elim (decLt i 24) [
-    | yes b ↦ elim (decLt i 20) [
-      | yes c ↦ elim (decLt i 13) [
-        | yes d ↦ setBits-words n w p f i d ∙ sym (setBits-words n w p g i d)
-        | no d ↦ both 13 (omega arith) (setBits-width n w p f (i - 13) (omega arith) ∙ sym (setBits-width n w p g (i - 13) (omega arith)))
-      ]
-      | no c ↦ both 20 (omega arith) (setBits-zeros n w p f (i - 20) (omega arith) ∙ sym (setBits-zeros n w p g (i - 20) (omega arith)))
-    ]
+  unfolding lineAt
+  setBits-prefix t few same i l = elim (decLt i (headerBits n)) [
+    | yes b ↦ setBits-header n w p f i b ∙ sym (setBits-header n w p g i b)
     | no b ↦
         let size : ℕ = lineBits n w in
-        let x : ℕ = i - 24 in
+        let x : ℕ = i - headerBits n in
         let s : ℕ = x / size in
         let some : 0 < size = elim (ℕ-discrete size 0)
         [ yes e ↦ absurd (omega (arith, ap (λ (z : ℕ). t * z) e, mul-zero t)) | no ne ↦ omega arith ] in
@@ -89,7 +86,3 @@ module _ {w : ℕ} (wide : 0 < w) (n : ℕ) (p : ℕ → ℕ) (f g : ℕ → ℕ
         ∙ sym (setBits-line n w p g s (omega arith) (x % size) inside) in
         rw place at at-line
   ]
-    where
-      both : (m : ℕ) → m ≤ i → getD (setBits n w p f) (m + (i - m)) 0 ≡ getD (setBits n w p g) (m + (i - m)) 0
-          → getD (setBits n w p f) i 0 ≡ getD (setBits n w p g) i 0
-      both m q h = let e : m + (i - m) ≡ i = omega arith in rw e at h

@@ -4,28 +4,31 @@
 use Prim.Native.Nat.{ℕ, suc, _+_, _*_, _-_, _/_, _%_, _^_, _<_}
 use mathlib.Core.Path.{_≡_, refl, sym, ap, _∙_}
 use native.Mathlib.Omega.{arith}
-use native.Mathlib.Nat.{mod-lt, mod-eq-of-lt, div-add-mod', zero-add}
+use native.Mathlib.Nat.{mod-lt, mod-eq-of-lt, div-add-mod'}
 use lib.Pow.{pow-pos}
 use lib.ListN.{getD}
 use Rattle.laws.specs.Permutation.{Injective, Permutes, inverse}
 use Rattle.laws.proofs.Permutations.{inverse-below, inverse-right, inverse-left}
-use Rattle.bits.specs.Bits.{Bytes, digit, bit, field}
+use Rattle.bits.specs.Bits.{Bytes, digit, bit, field, digits}
 use Rattle.bits.proofs.Fields.{field-digits}
 use Rattle.network.specs.Carried.{carried}
 use Rattle.network.proofs.Leaves.{leaves-ext}
 use Rattle.network.proofs.Performs.{setting-bit}
 use Rattle.network.proofs.Carried.{carried-permutes, carried-performs}
 use Rattle.tables.specs.Terms.{cycles, addressBits, depth, switchBits, addressRow, fileLength}
-use Rattle.tables.specs.Format.{headerWords, headerWidth, headerZeros, lineAt, readAddress, switchBit, writeAddress, filling}
+use Rattle.tables.specs.Header.{headerOf, Begins}
+use Rattle.tables.specs.Format.{lineAt, readAddress, switchBit, writeAddress, filling}
 use Rattle.tables.specs.Datapath.{carriedTo, source, target, Performs}
 use Rattle.tables.specs.Reading.{imageOf}
-use Rattle.tables.specs.Generated.{wordOf, portOf, writeOf, Schedule, digits, joined, lineOf, setBits, setOf}
+use Rattle.laws.specs.Tabulate.{joined}
+use Rattle.tables.specs.Generated.{wordOf, portOf, writeOf, Schedule, lineOf, setBits, setOf}
 use Rattle.tables.proofs.Dims.{Dims, depth-reaches, cycles-reached, address-below, word-below, word-injective}
 use Rattle.tables.proofs.Accepted.{Accepted}
 use Rattle.tables.proofs.Targets.{source-found}
 use Rattle.tables.proofs.Performs.{accepted-performs, performs-ext}
-use Rattle.tables.proofs.Packed.{Bits, append-bits, joined-bits, digits-bits, packed-bytes, bit-packed}
-use Rattle.tables.proofs.SetBits.{digit-none, switchesOf, setBits-words, setBits-width, setBits-zeros, setBits-past, setBits-read, setBits-switch, setBits-write}
+use Rattle.bits.proofs.Packed.{Bits, append-bits, joined-bits, digits-bits, packed-bytes, bit-packed}
+use Rattle.tables.proofs.Header.{headerOf-bits}
+use Rattle.tables.proofs.SetBits.{digit-none, switchesOf, setBits-header, setBits-past, setBits-read, setBits-switch, setBits-write}
 
 module _ {n w : ℕ} {p : ℕ → ℕ} {reads : ℕ → ℕ → ℕ} (D : Dims n w) (P : Permutes n p) (S : Schedule n w p reads) where
   -- ---- the numbers that are written
@@ -50,9 +53,7 @@ module _ {n w : ℕ} {p : ℕ → ℕ} {reads : ℕ → ℕ → ℕ} (D : Dims n
   pub setBits-bits : Bits (setBits n w p reads)
   unfolding setBits lineOf
   setBits-bits =
-      append-bits (digits 13 n) _ (digits-bits 13 n)
-      (append-bits (digits 7 w) _ (digits-bits 7 w)
-      (append-bits (digits 4 0) _ (digits-bits 4 0) (joined-bits (cycles n w) (lineOf n w p reads) line-bits)))
+      append-bits (headerOf n w) _ (headerOf-bits n w) (joined-bits (cycles n w) (lineOf n w p reads) line-bits)
     where
       line-bits : (t : ℕ) → t < cycles n w → Bits (lineOf n w p reads t)
       line-bits t l =
@@ -79,17 +80,8 @@ module _ {n w : ℕ} {p : ℕ → ℕ} {reads : ℕ → ℕ → ℕ} (D : Dims n
 
   -- ---- the header and the filling
 
-  pub headerWords-setOf : headerWords (setOf n w p reads) ≡ n
-  unfolding headerWords
-  headerWords-setOf = field-setOf 0 13 n (omega arith) (λ j l. rw zero-add (setBits-words n w p reads j l))
-
-  pub headerWidth-setOf : headerWidth (setOf n w p reads) ≡ w
-  unfolding headerWidth
-  headerWidth-setOf = field-setOf 13 7 w (omega arith) (setBits-width n w p reads)
-
-  pub headerZeros-setOf : headerZeros (setOf n w p reads) ≡ 0
-  unfolding headerZeros
-  headerZeros-setOf = field-setOf 20 4 0 (omega arith) (λ j l. setBits-zeros n w p reads j l ∙ sym (digit-none (4 - suc j)))
+  pub setOf-begins : Begins n w (setOf n w p reads)
+  setOf-begins i l = bit-setOf i ∙ setBits-header n w p reads i l
 
   pub filling-setOf : filling n w (setOf n w p reads) ≡ 0
   unfolding filling

@@ -16,7 +16,7 @@ use Rattle.laws.proofs.Anys.{any-none, any-some}
 use Rattle.laws.proofs.Tabulates.{Filling}
 use Rattle.bits.specs.Bits.{digit, bit, field}
 use Rattle.bits.proofs.Fields.{bit-field}
-use Rattle.tables.specs.Lines.{Spread, spareUsed}
+use Rattle.tables.specs.inner.Lines.{Spread, spareUsed}
 
 -- ---- addresses
 

@@ -7,15 +7,19 @@ use mathlib.Core.List.{List}
 use native.Mathlib.Omega.{arith}
 use native.Mathlib.Nat.{zero-div}
 use lib.ListN.{length, getD, length-append, List·getD-append, List·getD-eq-default}
-use Rattle.bits.specs.Bits.{digit}
+use Rattle.bits.specs.Bits.{digit, digits}
 use Rattle.network.specs.Carried.{carried}
 use Rattle.network.specs.Setting.{setting}
 use Rattle.network.proofs.Performs.{length-setting}
-use Rattle.tables.specs.Terms.{cycles, addressBits, depth, switchBits, addressRow, lineBits, headerBits, fileLength}
+use Rattle.tables.specs.Terms.{cycles, addressBits, depth, switchBits, addressRow, lineBits, fileLength}
+use Rattle.tables.specs.Header.{headerOf, headerBits}
 use Rattle.tables.specs.Format.{lineAt}
-use Rattle.tables.specs.Generated.{portOf, writeOf, digits, joined, lineOf, setBits, setOf}
+use Rattle.laws.specs.Tabulate.{joined}
+use Rattle.tables.specs.Generated.{portOf, writeOf, lineOf, setBits, setOf}
 use Rattle.tables.proofs.Dims.{addressRow-holds}
-use Rattle.tables.proofs.Packed.{getD-behind, length-joined, getD-joined, length-digits, getD-digits, length-packed}
+use Rattle.tables.proofs.Header.{length-headerOf}
+use Rattle.laws.proofs.Joins.{getD-behind, length-joined, getD-joined}
+use Rattle.bits.proofs.Packed.{length-digits, getD-digits, length-packed}
 
 -- ---- a row of k numbers of m digits each
 
@@ -81,33 +85,19 @@ module _ (n w : ℕ) (p : ℕ → ℕ) (reads : ℕ → ℕ → ℕ) where
   -- ---- the whole set
 
   pub length-setBits : length (setBits n w p reads) ≡ lineAt n w (cycles n w)
-  unfolding setBits lineAt headerBits
+  unfolding setBits lineAt
   length-setBits =
-      simp (length-append, length-digits)
-      (omega (arith, length-joined (lineBits n w) (lineOf n w p reads) (cycles n w) (λ t l. length-lineOf t)))
+      rw length-append
+      (omega (arith, length-headerOf n w, length-joined (lineBits n w) (lineOf n w p reads) (cycles n w) (λ t l. length-lineOf t)))
 
   pub length-setOf : length (setOf n w p reads) ≡ fileLength n w
   unfolding setOf fileLength lineAt headerBits
   length-setOf = length-packed (setBits n w p reads) ∙ rw length-setBits (omega arith)
 
-  -- the header: n, w and four zeros
-  pub setBits-words : (i : ℕ) → i < 13 → getD (setBits n w p reads) i 0 ≡ digit n (13 - suc i)
+  -- the header
+  pub setBits-header : (i : ℕ) → i < headerBits n → getD (setBits n w p reads) i 0 ≡ getD (headerOf n w) i 0
   unfolding setBits
-  setBits-words i l = List·getD-append (digits 13 n) _ 0 i (omega (arith, length-digits 13 n)) ∙ getD-digits 13 n i l
-
-  pub setBits-width : (i : ℕ) → i < 7 → getD (setBits n w p reads) (13 + i) 0 ≡ digit w (7 - suc i)
-  unfolding setBits
-  setBits-width i l =
-      getD-behind (digits 13 n) _ 13 i 0 (length-digits 13 n) ∙ List·getD-append (digits 7 w) _ 0 i (omega (arith, length-digits 7 w))
-      ∙ getD-digits 7 w i l
-
-  pub setBits-zeros : (i : ℕ) → i < 4 → getD (setBits n w p reads) (20 + i) 0 ≡ 0
-  unfolding setBits
-  setBits-zeros i l =
-      let e : 20 + i ≡ 13 + (7 + i) = omega arith in
-      rw e
-      (getD-behind (digits 13 n) _ 13 (7 + i) 0 (length-digits 13 n) ∙ getD-behind (digits 7 w) _ 7 i 0 (length-digits 7 w)
-      ∙ List·getD-append (digits 4 0) _ 0 i (omega (arith, length-digits 4 0)) ∙ getD-digits 4 0 i l ∙ digit-none (4 - suc i))
+  setBits-header i l = List·getD-append (headerOf n w) _ 0 i (omega (arith, length-headerOf n w))
 
   -- nothing from the last line's end on
   pub setBits-past : (i : ℕ) → lineAt n w (cycles n w) ≤ i → getD (setBits n w p reads) i 0 ≡ 0
@@ -115,13 +105,11 @@ module _ (n w : ℕ) (p : ℕ → ℕ) (reads : ℕ → ℕ → ℕ) where
 
   module _ (t : ℕ) (l : t < cycles n w) where
     pub setBits-line : (j : ℕ) → j < lineBits n w → getD (setBits n w p reads) (lineAt n w t + j) 0 ≡ getD (lineOf n w p reads t) j 0
-    unfolding setBits lineAt headerBits
+    unfolding setBits lineAt
     setBits-line j q =
-        let e : 24 + t * lineBits n w + j ≡ 13 + (7 + (4 + (t * lineBits n w + j))) = omega arith in
+        let e : headerBits n + t * lineBits n w + j ≡ headerBits n + (t * lineBits n w + j) = omega arith in
         rw e
-        (getD-behind (digits 13 n) _ 13 (7 + (4 + (t * lineBits n w + j))) 0 (length-digits 13 n)
-        ∙ getD-behind (digits 7 w) _ 7 (4 + (t * lineBits n w + j)) 0 (length-digits 7 w)
-        ∙ getD-behind (digits 4 0) _ 4 (t * lineBits n w + j) 0 (length-digits 4 0)
+        (getD-behind (headerOf n w) _ (headerBits n) (t * lineBits n w + j) 0 (length-headerOf n w)
         ∙ getD-joined (lineBits n w) (lineOf n w p reads) (cycles n w) (λ s _. length-lineOf s) t j l q)
 
     -- the digits of the address that bank b reads

@@ -16,9 +16,9 @@ use Rattle.bits.proofs.Digits.{digit-zero, digits-ext}
 use Rattle.bits.proofs.Fields.{bit-byte, putField-bytes, length-putField, bit-putField-inside, bit-putField-outside}
 use Rattle.tables.specs.Terms.{fileLength}
 use Rattle.tables.specs.Generated.{Schedule, setBits, setOf}
-pub use Rattle.tables.specs.Generated.{Written}
+pub use Rattle.tables.specs.inner.Buffers.{Written}
 use Rattle.tables.proofs.Dims.{Dims}
-use Rattle.tables.proofs.Packed.{getD-behind}
+use Rattle.laws.proofs.Joins.{getD-behind}
 use Rattle.tables.proofs.SetBits.{digit-none, length-setOf}
 use Rattle.tables.proofs.ReadsBack.{setOf-bytes, bit-setOf}
 

@@ -1,29 +1,20 @@
 -- Document 01, "The table set": where each number of a set stands, and which files have the right form.
-use Prim.Native.Nat.{ℕ, _+_, _*_, _-_, _%_, _^_}
+use Prim.Native.Nat.{ℕ, _+_, _*_, _-_, _^_}
+use mathlib.Core.Path.{_≡_}
 use mathlib.Core.List.{List}
 use lib.ListN.{length}
-use Rattle.limits.specs.Limits.{mostWords, mostWidth}
 use Rattle.laws.specs.Choice.{ifLt, ifEq}
 use Rattle.bits.specs.Bits.{bit, field}
 use Rattle.refusal.specs.declared.Refusal.the-variants.{FileShort, Header, FileLong}
-use Rattle.tables.specs.Terms.{cycles, addressBits, depth, switchBits, addressRow, lineBits, headerBits, fileLength}
+use Rattle.tables.specs.Terms.{Dims, cycles, addressBits, depth, switchBits, addressRow, lineBits, fileLength, limitTest}
+use Rattle.tables.specs.Header.{headerBits, leastHeader, headerWords, headerWidth, headerZeros}
 use Rattle.tables.specs.declared.Shape.{Shape}
 use Rattle.tables.specs.declared.Opened.{Opened}
 use Rattle.tables.specs.declared.Opened.the-variants.{Set, Refused}
 
--- the header: "n in 13 bits, w in 7 bits, four zero bits"
-unfoldable pub headerWords : List ℕ → ℕ
-headerWords file = field file 0 13
-
-unfoldable pub headerWidth : List ℕ → ℕ
-headerWidth file = field file 13 7
-
-unfoldable pub headerZeros : List ℕ → ℕ
-headerZeros file = field file 20 4
-
 -- the bit at which line t starts
 unfoldable pub lineAt : ℕ → ℕ → ℕ → ℕ
-lineAt n w t = headerBits + t * lineBits n w
+lineAt n w t = headerBits n + t * lineBits n w
 
 -- the address that bank b of the first memory reads in line t: "w read addresses of a bits (bank 0 first)"
 unfoldable pub readAddress : ℕ → ℕ → List ℕ → ℕ → ℕ → ℕ
@@ -50,21 +41,24 @@ shapeOf n w = record {
   address = addressBits n w;
   lines = 2 ^ depth w;
   switches = switchBits w;
-  start = headerBits;
+  start = headerBits n;
   stride = lineBits n w;
 }
 
--- next, where n, w and the four last bits keep the limits: n 1 to 4,096, w 1 to 64, w divides n, four zero bits
-abbrev pub limitTest : ℕ → ℕ → ℕ → Opened → Opened
-limitTest n w zeros next =
-    ifLt n 1 (Refused Header)
-    (ifLt mostWords n (Refused Header)
-    (ifLt w 1 (Refused Header)
-    (ifLt mostWidth w (Refused Header) (ifEq (n % w) 0 (ifEq zeros 0 next (Refused Header)) (Refused Header)))))
+-- the shape of a set: its n and w keep the limits, and the other numbers follow from them
+pub record Shaped (s : Shape) : Type 0 where
+  pub dims : Dims (s .words) (s .width)
+  pub cycles : s .cycles ≡ cycles (s .words) (s .width)
+  pub address : s .address ≡ addressBits (s .words) (s .width)
+  pub lines : s .lines ≡ 2 ^ depth (s .width)
+  pub switches : s .switches ≡ switchBits (s .width)
+  pub start : s .start ≡ headerBits (s .words)
+  pub stride : s .stride ≡ lineBits (s .words) (s .width)
 
--- the same of the numbers in the header
+-- 7: "the header breaks a limit, w does not divide n, or one of its four last bits is set"
 unfoldable pub headerTest : List ℕ → Opened → Opened
-headerTest file next = limitTest (headerWords file) (headerWidth file) (headerZeros file) next
+headerTest file next =
+    limitTest (headerWords file) (headerWidth file) (λ _. Refused Header) (ifEq (headerZeros file) 0 next (Refused Header))
 
 -- the tests of a whole file for its n and w: its length, and the filling
 unfoldable pub lengthTest : ℕ → ℕ → List ℕ → Opened
@@ -75,4 +69,4 @@ lengthTest n w file =
 -- the tests of a file's form in their order: 6 for the header, 7, 6 for the whole, 8
 unfoldable pub openOf : List ℕ → Opened
 openOf file =
-    ifLt (length file) 3 (Refused FileShort) (headerTest file (lengthTest (headerWords file) (headerWidth file) file))
+    ifLt (length file) leastHeader (Refused FileShort) (headerTest file (lengthTest (headerWords file) (headerWidth file) file))

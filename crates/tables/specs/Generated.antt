@@ -1,14 +1,13 @@
 -- The set that given read lines determine: "w read addresses, B switch bits, w write addresses" in each line, with the rule's switch
 -- bits for the line's permutation, and the writes that the permutation gives. `reads t b` is the address that bank b reads in line t.
-use Prim.Native.Nat.{ℕ, zero, suc, _+_, _*_, _-_, _/_, _%_, _<_, _≤_}
-use mathlib.Core.Path.{_≡_}
-use mathlib.Core.List.{List, [], _++_}
-use lib.ListN.{length, getD}
-use Rattle.laws.specs.Tabulate.{tabulate}
+use Prim.Native.Nat.{ℕ, _+_, _*_, _/_, _%_, _<_}
+use mathlib.Core.List.{List, _++_}
+use Rattle.laws.specs.Tabulate.{joined}
 use Rattle.laws.specs.Permutation.{Injective, inverse}
-use Rattle.bits.specs.Bits.{Bytes, bit, digit}
+use Rattle.bits.specs.Bits.{digits, packed}
 use Rattle.network.specs.Carried.{carried}
 use Rattle.network.specs.Setting.{setting}
+use Rattle.tables.specs.Header.{headerOf}
 use Rattle.tables.specs.Terms.{cycles, addressBits, depth}
 
 -- the word that bank b gives in line t, and the port at which it leaves
@@ -28,41 +27,16 @@ pub record Schedule (n w : ℕ) (p : ℕ → ℕ) (reads : ℕ → ℕ → ℕ) 
   pub once : (b : ℕ) → b < w → Injective (cycles n w) (λ t. reads t b)
   pub ports : (t : ℕ) → t < cycles n w → Injective w (portOf w p reads t)
 
--- the k binary digits of x, most significant first
-unfoldable pub digits : ℕ → ℕ → List ℕ
-digits k x = tabulate k (λ i. digit x (k - suc i))
-
--- f 0, .., f (k - 1), one behind the other
-unfoldable pub joined : ℕ → (ℕ → List ℕ) → List ℕ
-joined zero f = []
-joined (suc k) f = joined k f ++ f k
-
 -- the bits of line t
 unfoldable pub lineOf : ℕ → ℕ → (ℕ → ℕ) → (ℕ → ℕ → ℕ) → ℕ → List ℕ
 lineOf n w p reads t =
     joined w (λ b. digits (addressBits n w) (reads t b))
     ++ (setting (depth w) (carried w (portOf w p reads t)) ++ joined w (λ k. digits (addressBits n w) (writeOf w p reads t k)))
 
--- the bits of the set: "n in 13 bits, w in 7 bits, four zero bits; for each of the c cycles .."
+-- the bits of the set: the header, then "for each of the c cycles .."
 unfoldable pub setBits : ℕ → ℕ → (ℕ → ℕ) → (ℕ → ℕ → ℕ) → List ℕ
-setBits n w p reads = digits 13 n ++ (digits 7 w ++ (digits 4 0 ++ joined (cycles n w) (lineOf n w p reads)))
-
--- the number that k bits from bit `at` write; a bit past the end is 0
-unfoldable pub numberAt : List ℕ → ℕ → ℕ → ℕ
-numberAt bits at zero = 0
-numberAt bits at (suc k) = numberAt bits at k * 2 + getD bits (at + k) 0
-
--- whole bytes: "zero bits up to a whole byte"
-unfoldable pub packed : List ℕ → List ℕ
-packed bits = tabulate ((length bits + 7) / 8) (λ j. numberAt bits (8 * j) 8)
+setBits n w p reads = headerOf n w ++ joined (cycles n w) (lineOf n w p reads)
 
 -- the file
 unfoldable pub setOf : ℕ → ℕ → (ℕ → ℕ) → (ℕ → ℕ → ℕ) → List ℕ
 setOf n w p reads = packed (setBits n w p reads)
-
--- the file holds the bits below position x, over a buffer that was `before`. Only contracts of our own crates cite it.
-pub record Written (bits before file : List ℕ) (x : ℕ) : Type 0 where
-  pub long : length file ≡ length before
-  pub bytes : Bytes file
-  pub front : (i : ℕ) → i < x → bit file i ≡ getD bits i 0
-  pub behind : (i : ℕ) → x ≤ i → bit file i ≡ bit before i

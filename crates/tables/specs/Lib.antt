@@ -1,7 +1,7 @@
+pub mod Header
 pub mod Terms
 pub mod Format
 pub mod Datapath
 pub mod Reading
 pub mod Generated
-pub mod Lines
-pub mod Gathering
+pub mod inner

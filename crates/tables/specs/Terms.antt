@@ -2,8 +2,13 @@
 use Prim.Native.Nat.{ℕ, zero, suc, _+_, _*_, _/_, _%_, _^_, _<_, _≤_}
 use mathlib.Core.Path.{_≡_}
 use Rattle.limits.specs.Limits.{mostWords, mostWidth}
-use Rattle.laws.specs.Choice.{ifLe}
+use Rattle.laws.specs.Choice.{ifLt, ifLe, ifEq}
+use Rattle.refusal.specs.declared.Refusal.{Refusal}
+use Rattle.refusal.specs.declared.Refusal.the-variants.{FrameSize, Width, Uneven}
 use Rattle.network.specs.Network.{bitCount}
+use Rattle.tables.specs.Header.{headerBits}
+use Rattle.tables.specs.declared.Limits.{Limits}
+use Rattle.tables.specs.declared.Limits.the-variants.{Kept, Refused}
 
 -- n is 1 to 4,096, w is 1 to 64, and w divides n
 pub record Dims (n w : ℕ) : Type 0 where
@@ -12,6 +17,16 @@ pub record Dims (n w : ℕ) : Type 0 where
   pub wide : 0 < w
   pub narrow : w ≤ mostWidth
   pub even : n % w ≡ 0
+
+-- the tests of n and w in the order of their numbers: 1, 2, 3; then next
+unfoldable pub limitTest : {X : Type 0} → ℕ → ℕ → (Refusal → X) → X → X
+limitTest n w refused next =
+    ifLt n 1 (refused FrameSize)
+    (ifLt mostWords n (refused FrameSize)
+    (ifLt w 1 (refused Width) (ifLt mostWidth w (refused Width) (ifEq (n % w) 0 next (refused Uneven)))))
+
+unfoldable pub limitsOf : ℕ → ℕ → Limits
+limitsOf n w = limitTest n w Refused Kept
 
 -- e, or the first number above it, up to e + k, whose power of two is at least x
 unfoldable pub logFrom : ℕ → ℕ → ℕ → ℕ
@@ -46,10 +61,6 @@ addressRow n w = w * addressBits n w
 unfoldable pub lineBits : ℕ → ℕ → ℕ
 lineBits n w = addressRow n w + (switchBits w + addressRow n w)
 
--- the bits of the header: n in 13, w in 7, four zero bits
-unfoldable pub headerBits : ℕ
-headerBits = 24
-
--- "length in bytes: 3 + ceil(c(2wa + B)/8)"
+-- "length in bytes: 3 + ceil(c(2wa + B)/8)", where 3 is the header's
 unfoldable pub fileLength : ℕ → ℕ → ℕ
-fileLength n w = 3 + (cycles n w * lineBits n w + 7) / 8
+fileLength n w = headerBits n / 8 + (cycles n w * lineBits n w + 7) / 8

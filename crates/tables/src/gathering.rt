@@ -4,10 +4,10 @@ ghost use Prim.Native.Nat.{_+_, _*_, _<_, _≤_};
 ghost use lib.ListN.{length, getD};
 ghost use Rattle.limits.specs.Limits.{mostWidth, mostSwitches};
 ghost use Rattle.laws.specs.Tabulate.{overwrite};
-ghost use Rattle.tables.specs.Terms.{Dims, cycles};
-ghost use Rattle.tables.specs.Format.{shapeOf};
+ghost use Rattle.tables.specs.Terms.{cycles};
+ghost use Rattle.tables.specs.Format.{Shaped};
 ghost use Rattle.tables.specs.Reading.{outcome, readLines, readOf};
-ghost use Rattle.tables.specs.Gathering.{faulty, Gather, Gathers, GathersAll, Markable, Marked};
+ghost use Rattle.tables.specs.inner.Gathering.{faulty, Gather, Gathers, GathersAll, Markable, Marked};
 use crate::Opened;
 use crate::Reading;
 use crate::Shape;
@@ -79,7 +79,7 @@ fn gather_line(
     standing: &mut [u8],
     writes: &mut [u16],
 ) -> Gathered
-    requires { ⌜ (Dims (shape .words) (shape .width)) × (shape ≡ shapeOf (shape .words) (shape .width)) × (t < cycles (shape .words) (shape .width)) ⌝ }
+    requires { ⌜ Shaped shape × (t < cycles (shape .words) (shape .width)) ⌝ }
     requires { ⌜ (length (now setting) ≡ mostSwitches) × (length (now reads) ≡ mostWidth) × (length (now standing) ≡ mostWidth) × (length (now writes) ≡ mostWidth) ⌝ }
     requires { ⌜ Gather (shape .words) (shape .width) (now file) t (now places) (now words) ⌝ }
     ensures { λ r. ⌜ Gathers (shape .words) (shape .width) (now (file .entry)) t r (now (places .exit)) (now (words .exit)) ⌝ }
@@ -100,7 +100,7 @@ fn gather_line(
 
 // The place of each word and the word of each place, over all lines. Only our own crates call it, with arrays that hold no marks.
 pub fn gather(file: &[u8], shape: Shape, places: &mut [u16], words: &mut [u16]) -> Gathered
-    requires { ⌜ (Dims (shape .words) (shape .width)) × (shape ≡ shapeOf (shape .words) (shape .width)) ⌝ }
+    requires { ⌜ Shaped shape ⌝ }
     requires { ⌜ Gather (shape .words) (shape .width) (now file) 0 (now places) (now words) ⌝ }
     ensures { λ r. ⌜ GathersAll (shape .words) (shape .width) (now (file .entry)) r (now (places .exit)) (now (words .exit)) ⌝ }
 {
@@ -144,7 +144,7 @@ fn write_images(places: &[u16], images: &mut [u16], n: usize)
 
 // Reads a set of the right form.
 fn read_set(file: &[u8], shape: Shape, images: &mut [u16], scratch: &[u16]) -> Reading
-    requires { ⌜ (Dims (shape .words) (shape .width)) × (shape ≡ shapeOf (shape .words) (shape .width)) ⌝ }
+    requires { ⌜ Shaped shape ⌝ }
     ensures { λ r. ⌜ outcome r (now (images .exit)) ≡ readLines (shape .words) (shape .width) (now (file .entry)) (now (images .entry)) (now (scratch .entry)) ⌝ }
 {
     let words = shape.words;

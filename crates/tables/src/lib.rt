@@ -13,6 +13,7 @@ pub use lines::spare_used;
 pub use opening::file_length;
 pub use opening::open;
 pub use opening::shape_of;
+pub use opening::test_limits;
 use refusal::Refusal;
 
 // What a checked header says of a set.
@@ -34,6 +35,12 @@ pub struct Shape {
     pub start: usize,
     // The bits of one line.
     pub stride: usize,
+}
+
+// Whether n and w keep the limits: 1, 2, 3.
+pub enum Limits {
+    Kept,
+    Refused(Refusal),
 }
 
 pub enum Opened {

@@ -6,9 +6,9 @@ ghost use lib.ListN.{length, getD};
 ghost use Rattle.limits.specs.Limits.{mostWidth, mostSwitches};
 ghost use Rattle.laws.specs.Any.{any};
 ghost use Rattle.network.specs.Calls.{Sized};
-ghost use Rattle.tables.specs.Terms.{Dims, cycles};
-ghost use Rattle.tables.specs.Format.{shapeOf};
-ghost use Rattle.tables.specs.Lines.{Addresses, Spread, Switches, Sources, Line, spareUsed};
+ghost use Rattle.tables.specs.Terms.{cycles};
+ghost use Rattle.tables.specs.Format.{Shaped};
+ghost use Rattle.tables.specs.inner.Lines.{Addresses, Spread, Switches, Sources, Line, spareUsed};
 use crate::Shape;
 use limits::MOST_WIDTH;
 
@@ -96,7 +96,7 @@ pub fn line_at(
     standing: &mut [u8],
     writes: &mut [u16],
 )
-    requires { ⌜ (Dims (shape .words) (shape .width)) × (shape ≡ shapeOf (shape .words) (shape .width)) ⌝ }
+    requires { ⌜ Shaped shape ⌝ }
     requires { ⌜ t < cycles (shape .words) (shape .width) ⌝ }
     requires { ⌜ (length (now setting) ≡ mostSwitches) × (length (now reads) ≡ mostWidth) × (length (now standing) ≡ mostWidth) × (length (now writes) ≡ mostWidth) ⌝ }
     ensures { λ _. ⌜ (length (now (setting .exit)) ≡ mostSwitches) × Line (shape .words) (shape .width) (now (file .entry)) t (now (reads .exit)) (now (standing .exit)) (now (writes .exit)) ⌝ }

@@ -2,21 +2,22 @@
 ghost use mathlib.Core.Path.{_≡_};
 ghost use Prim.Native.Nat.{_+_, _*_, _%_, _<_};
 ghost use lib.ListN.{length};
-ghost use Rattle.tables.specs.Terms.{Dims, logUp, fileLength};
-ghost use mathlib.Core.Bool.{true};
-ghost use Rattle.laws.specs.Choice.{choose};
+ghost use Rattle.tables.specs.Terms.{Dims, logUp, fileLength, limitsOf};
 ghost use Rattle.refusal.specs.declared.Refusal.the-variants.{Header};
-ghost use Rattle.tables.specs.Format.{shapeOf, limitTest, openOf};
+ghost use Rattle.tables.specs.Format.{shapeOf, Shaped, lengthTest, openOf};
 ghost use Rattle.tables.specs.declared.Opened.{Opened};
 ghost use Rattle.tables.specs.declared.Opened.the-variants.{Refused};
+use crate::Limits;
 use crate::Opened;
 use crate::Shape;
 use limits::MOST_WIDTH;
 use limits::MOST_WORDS;
 use refusal::Refusal;
 
-// The bits of the header.
+// The bits of the header, and the bytes without which a file has none.
 const HEADER_BITS: usize = 24;
+
+const LEAST_HEADER: usize = 3;
 
 // The least e with 2^e at least x: the binary digits that x - 1 has.
 fn log_up(x: usize) -> usize
@@ -50,48 +51,39 @@ pub fn shape_of(words: usize, width: usize) -> Shape
 
 // The bytes of a set. Only our own crates call it, with the shape of one.
 pub fn file_length(shape: Shape) -> usize
-    requires { ⌜ (Dims (shape .words) (shape .width)) × (shape ≡ shapeOf (shape .words) (shape .width)) ⌝ }
+    requires { ⌜ Shaped shape ⌝ }
     ensures { λ r. ⌜ r ≡ fileLength (shape .words) (shape .width) ⌝ }
 {
-    3 + (shape.cycles * shape.stride + 7) / 8
+    shape.start / 8 + (shape.cycles * shape.stride + 7) / 8
 }
 
-// Whether the numbers of a header keep the limits.
-fn in_limits(words: usize, width: usize, zeros: u16) -> bool
-    ensures { λ r. ⌜ (r ≡ true → Dims words width) × ((next : Opened) → choose r next (Refused Header) ≡ limitTest words width zeros next) ⌝ }
+// Whether n and w keep the limits.
+pub fn test_limits(words: usize, width: usize) -> Limits
+    ensures { λ r. ⌜ r ≡ limitsOf words width ⌝ }
 {
     if words < 1 {
-        return false;
+        return Limits::Refused(Refusal::FrameSize);
     }
     if MOST_WORDS < words {
-        return false;
+        return Limits::Refused(Refusal::FrameSize);
     }
     if width < 1 {
-        return false;
+        return Limits::Refused(Refusal::Width);
     }
     if MOST_WIDTH < width {
-        return false;
+        return Limits::Refused(Refusal::Width);
     }
     if words % width == 0 {
-        return zeros == 0;
+        return Limits::Kept;
     }
-    false
+    Limits::Refused(Refusal::Uneven)
 }
 
-// Whether a file has the form of a set, and its shape: the header, the length, the filling bits.
-pub fn open(file: &[u8]) -> Opened
-    ensures { λ r. ⌜ r ≡ openOf (now (file .entry)) ⌝ }
+// Whether a file has the length and the filling bits of a set of this shape.
+fn open_whole(file: &[u8], shape: Shape) -> Opened
+    requires { ⌜ Shaped shape ⌝ }
+    ensures { λ r. ⌜ r ≡ lengthTest (shape .words) (shape .width) (now (file .entry)) ⌝ }
 {
-    if file.len() < 3 {
-        return Opened::Refused(Refusal::FileShort);
-    }
-    let words = bits::field_at(file, 0, 13) as usize;
-    let width = bits::field_at(file, 13, 7) as usize;
-    let zeros = bits::field_at(file, 20, 4);
-    if !in_limits(words, width, zeros) {
-        return Opened::Refused(Refusal::Header);
-    }
-    let shape = shape_of(words, width);
     let length = file_length(shape);
     if file.len() < length {
         return Opened::Refused(Refusal::FileShort);
@@ -104,4 +96,23 @@ pub fn open(file: &[u8]) -> Opened
         return Opened::Set(shape);
     }
     Opened::Refused(Refusal::FileLong)
+}
+
+// Whether a file has the form of a set, and its shape: the header, the length, the filling bits.
+pub fn open(file: &[u8]) -> Opened
+    ensures { λ r. ⌜ r ≡ openOf (now (file .entry)) ⌝ }
+{
+    if file.len() < LEAST_HEADER {
+        return Opened::Refused(Refusal::FileShort);
+    }
+    let words = bits::field_at(file, 0, 13) as usize;
+    let width = bits::field_at(file, 13, 7) as usize;
+    let zeros = bits::field_at(file, 20, 4);
+    if zeros != 0 {
+        return Opened::Refused(Refusal::Header);
+    }
+    match test_limits(words, width) {
+        Limits::Refused(_) => Opened::Refused(Refusal::Header),
+        Limits::Kept => open_whole(file, shape_of(words, width)),
+    }
 }

@@ -1,7 +1,7 @@
 -- `bits::put_window` meets its contract: `putWindow` is the three stores, one after the other.
 -- Assumes nothing.
 use borrow.Author.Needs.{needs}
-use Rattle.bits.specs.Window.{putWindow}
+use Rattle.bits.specs.inner.Window.{putWindow}
 use Rattle.bits.proofs.put_window.Statement.{statement}
 use Rattle.bits.proofs.put_window.Tie as tie
 

@@ -5,7 +5,7 @@ use native.Mathlib.Omega.{arith}
 use borrow.Author.Needs.{needs}
 use lib.ListN.{length-replicate}
 use Rattle.limits.specs.Limits.{mostWords}
-use Rattle.description.specs.Writing.{Inverted}
+use Rattle.description.specs.inner.Writing.{Inverted}
 use Rattle.description.proofs.Texts.{inverted-more}
 use Rattle.description.proofs.leavers_of.Statement.{statement}
 use Rattle.description.proofs.leavers_of.Tie as tie

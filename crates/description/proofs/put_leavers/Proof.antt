@@ -5,7 +5,7 @@ use native.Mathlib.Omega.{arith}
 use borrow.Author.Needs.{needs}
 use lib.ListN.{length, getD}
 use Rattle.description.specs.Description.{leavers}
-use Rattle.description.specs.Writing.{Wrote}
+use Rattle.description.specs.inner.Writing.{Wrote}
 use Rattle.description.proofs.Texts.{Leaving, leaving-none, leaving-more, wrote-length, decimal-length}
 use Rattle.description.proofs.put_leavers.Statement.{statement}
 use Rattle.description.proofs.put_leavers.Tie as tie

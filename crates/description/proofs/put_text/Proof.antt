@@ -6,7 +6,7 @@ use native.Mathlib.Omega.{arith}
 use borrow.Author.Needs.{needs}
 use lib.ListN.{length, take}
 use lib.Seq.{sets, take-length}
-use Rattle.description.specs.Writing.{Wrote}
+use Rattle.description.specs.inner.Writing.{Wrote}
 use Rattle.description.proofs.Texts.{wrote-length, wrote-none, front-more}
 use Rattle.description.proofs.put_text.Statement.{statement}
 use Rattle.description.proofs.put_text.Tie as tie

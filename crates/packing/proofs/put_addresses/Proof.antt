@@ -3,7 +3,7 @@ use Prim.Native.Nat.{_-_, _≤_}
 use mathlib.Core.Path.{_≡_, _∙_}
 use native.Mathlib.Omega.{arith}
 use lib.ListN.{length}
-use Rattle.bits.specs.Writing.{placeOf, wholeOf}
+use Rattle.bits.specs.inner.Writing.{positionOf, wholeOf}
 use Rattle.bits.proofs.Fields.{length-putField}
 use Rattle.packing.proofs.Parts.{Putting, putting-none, putting-more, field-within}
 use borrow.Author.Needs.{needs}
@@ -11,7 +11,7 @@ use Rattle.packing.proofs.put_addresses.Statement.{statement}
 use Rattle.packing.proofs.put_addresses.Tie as tie
 
 abbrev Inv-loop : tie.InvT-loop
-Inv-loop file₀ width values count current₀ i₀ file current i = (i ≤ count) × Putting (wholeOf file₀ current₀) (placeOf current₀) width values i file current
+Inv-loop file₀ width values count current₀ i₀ file current i = (i ≤ count) × Putting (wholeOf file₀ current₀) (positionOf current₀) width values i file current
 
 abbrev μ-loop : tie.MeasureT-loop
 μ-loop file₀ width values count current₀ i₀ file current i = count - i
@@ -56,7 +56,7 @@ returns c =
     let s = c .before .before .before .before in
     let l = c .before .loop in
     let e : l .i ≡ s .args .count = omega arith in
-    let P : Putting (wholeOf (s .args .file .now) (s .args .writer)) (placeOf (s .args .writer)) (s .args .width) (s .args .values .now) (s .args .count) (l .file) (l .current) = rw e at (l .inv .1) in
+    let P : Putting (wholeOf (s .args .file .now) (s .args .writer)) (positionOf (s .args .writer)) (s .args .width) (s .args .values .now) (s .args .count) (l .file) (l .current) = rw e at (l .inv .1) in
     (P .opened, P .place, P .put)
 
 pub put-addresses-spec : {M : Type 1} → statement M

@@ -3,7 +3,7 @@ use Prim.Native.Nat.{ℕ, _+_, _-_, _≤_}
 use mathlib.Core.Path.{_≡_, _∙_}
 use native.Mathlib.Omega.{arith}
 use lib.ListN.{length}
-use Rattle.bits.specs.Writing.{placeOf, wholeOf}
+use Rattle.bits.specs.inner.Writing.{positionOf, wholeOf}
 use Rattle.bits.proofs.Fields.{length-putField}
 use Rattle.packing.proofs.Parts.{Putting, putting-none}
 use Rattle.packing.proofs.Numbers.{putting-number}
@@ -12,7 +12,7 @@ use Rattle.packing.proofs.put_bits.Statement.{statement}
 use Rattle.packing.proofs.put_bits.Tie as tie
 
 abbrev Inv-loop : tie.InvT-loop
-Inv-loop file₀ values current₀ i₀ file current i = (i ≤ length values) × Putting (wholeOf file₀ current₀) (placeOf current₀) 1 values i file current
+Inv-loop file₀ values current₀ i₀ file current i = (i ≤ length values) × Putting (wholeOf file₀ current₀) (positionOf current₀) 1 values i file current
 
 abbrev μ-loop : tie.MeasureT-loop
 μ-loop file₀ values current₀ i₀ file current i = length values - i

@@ -5,8 +5,9 @@ use mathlib.Core.List.{List}
 use native.Mathlib.Omega.{arith}
 use lib.ListN.{length, take}
 use lib.Seq.{length-take-le}
-use Rattle.bits.specs.Writing.{placeOf, wholeOf}
-use Rattle.network.specs.Steps.{Inverses}
+use Rattle.bits.specs.inner.Writing.{positionOf, wholeOf}
+use Rattle.network.specs.inner.Steps.{Inverses}
+use Rattle.tables.proofs.Opens.{shape-same}
 use Rattle.tables.proofs.Passes.{line-sized}
 use Rattle.packing.specs.Packing.{putFields}
 use Rattle.packing.proofs.Lines.{Placed, line-placed, front-long, bits-known, bits-two, none-put}
@@ -15,10 +16,10 @@ use Rattle.packing.proofs.put_switches.Statement.{statement}
 use Rattle.packing.proofs.put_switches.Tie as tie
 
 placed-known : (s : tie.Start) → Placed (s .args .shape .words) (s .args .shape .width) (s .args .shape)
-placed-known s = line-placed (s .pre .0 .0) (s .pre .0 .1)
+placed-known s = line-placed (s .pre .0 .0 .dims) (shape-same (s .pre .0 .0))
 
 fronts-known : (s : tie.Start) → Inverses (take (s .args .shape .lines) (s .args .forward .now)) (take (s .args .shape .lines) (s .args .back .now))
-fronts-known s = rw (placed-known s .lines) (s .pre .0 .2 .inverses)
+fronts-known s = rw (placed-known s .lines) (s .pre .0 .1 .inverses)
 
 returns : tie.Need-returns
 returns c =
@@ -26,17 +27,17 @@ returns c =
     (s .pre .1 .0, omega (arith, c .if1 .taken), none-put _ _ 1 _ (c .if1 .taken), s .pre .1 .2)
 
 slice-aggregate-set-switches : tie.Need-slice-aggregate-set-switches
-slice-aggregate-set-switches c = let s = c .before .before .before .before .before .before .before in sym (length-take-le _ (s .args .forward .now) (omega (arith, placed-known s .few, s .pre .0 .2 .forward-long)))
+slice-aggregate-set-switches c = let s = c .before .before .before .before .before .before .before in sym (length-take-le _ (s .args .forward .now) (omega (arith, placed-known s .few, s .pre .0 .1 .forward-long)))
 
 slice-aggregate-set-switches-2 : tie.Need-slice-aggregate-set-switches-2
-slice-aggregate-set-switches-2 c = let s = c .before .before .before .before .before .before .before .before in sym (length-take-le _ (s .args .back .now) (omega (arith, placed-known s .few, s .pre .0 .2 .back-long)))
+slice-aggregate-set-switches-2 c = let s = c .before .before .before .before .before .before .before .before in sym (length-take-le _ (s .args .back .now) (omega (arith, placed-known s .few, s .pre .0 .1 .back-long)))
 
 set-switches-requires : tie.Need-set-switches-requires
 set-switches-requires c κs =
     let s = c .before .before .before .before .before .before .before .before .before in
     let P = placed-known s in
-    let S = line-sized (s .pre .0 .0) (s .pre .0 .1) in
-    let long = front-long P (s .pre .0 .2) in
+    let S = line-sized (s .pre .0 .0 .dims) (shape-same (s .pre .0 .0)) in
+    let long = front-long P (s .pre .0 .1) in
     ((S .0, (long ∙ S .1 .0, S .1 .1)), (omega (arith, P .few, long), P .switches-few, fronts-known s, s .pre .1 .2))
 
 -- the bits lie in the front of the array
@@ -54,8 +55,8 @@ put-bits-requires c κs =
     let s = c .before .before .before .before .before .before .before .before .before .before .before .before .before .before in
     let P = placed-known s in
     let long = bits-long (c .before .before .before .before) in
-    let known = bits-known P (s .pre .0 .2) (c .before .before .before .before .set-switches .ensures .1) in (
-      (omega (arith, P .switches-few, long), λ i l. bits-two P (s .pre .0 .2) _ known i),
+    let known = bits-known P (s .pre .0 .1) (c .before .before .before .before .set-switches .ensures .1) in (
+      (omega (arith, P .switches-few, long), λ i l. bits-two P (s .pre .0 .1) _ known i),
       (s .pre .1 .0, omega (arith, s .pre .1 .1, long)),
     )
 
@@ -70,10 +71,10 @@ returns-2 c =
     let s = c .before .before .before .before .before .before .before .before .before .before .before .before .before .before .before .before .before in
     let put = c .before .before .put-bits .ensures in
     let long = bits-long (c .before .before .before .before .before .before .before) in
-    let known = bits-known (placed-known s) (s .pre .0 .2) (c .before .before .before .before .before .before .before .set-switches .ensures .1) in (
+    let known = bits-known (placed-known s) (s .pre .0 .1) (c .before .before .before .before .before .before .before .set-switches .ensures .1) in (
       put .0,
       omega (arith, put .1, long),
-      put .2 ∙ ap₂ (λ (y : List ℕ) (k : ℕ). putFields (wholeOf (s .args .file .now) (s .args .writer)) (placeOf (s .args .writer)) 1 y k) known long,
+      put .2 ∙ ap₂ (λ (y : List ℕ) (k : ℕ). putFields (wholeOf (s .args .file .now) (s .args .writer)) (positionOf (s .args .writer)) 1 y k) known long,
       c .before .before .before .before .before .before .before .set-switches .ensures .0,
     )
 

@@ -3,10 +3,11 @@ use Prim.Native.Nat.{ℕ, _+_, _-_, _*_, _%_, _<_}
 use mathlib.Core.Path.{_≡_, sym, ap, subst, _∙_}
 use native.Mathlib.Omega.{arith}
 use native.Mathlib.Nat.{mod-lt}
-use lib.ListN.{length, getD}
+use lib.ListN.{length}
 use Rattle.limits.specs.Limits.{mostWidth}
+use Rattle.images.specs.Images.{orderOf}
 use Rattle.generator.proofs.Chains.{Chaining, chaining-none, chaining-more, chaining-all}
-use Rattle.generator.specs.Schedule.{Drawn, headCount}
+use Rattle.generator.specs.inner.Schedule.{Drawn, headCount}
 use Rattle.generator.proofs.Drawings.{drawn-none, drawn-more}
 use borrow.Author.Needs.{needs}
 use Rattle.generator.proofs.scheduling.chain.Statement.{statement}
@@ -14,7 +15,7 @@ use Rattle.generator.proofs.scheduling.chain.Tie as tie
 
 abbrev Inv-loop : tie.InvT-loop
 Inv-loop images n w next₀ edges₀ heads₀ bank₀ i₀ next edges heads bank i =
-    (bank ≡ i % w) × Chaining n w (λ j. getD images j 0) next₀ i next heads × Drawn w heads edges
+    (bank ≡ i % w) × Chaining n w (orderOf n images) next₀ i next heads × Drawn w heads edges
 
 abbrev μ-loop : tie.MeasureT-loop
 μ-loop images n w next₀ edges₀ heads₀ bank₀ i₀ next edges heads bank i = i
@@ -35,17 +36,17 @@ banked c =
     let e : l .i ≡ l .i - 1 + 1 = omega (arith, c .before .loop-test .taken) in
     c .bank-before .ensures (l .i - 1) (l .inv .0 ∙ ap (λ (z : ℕ). z % c .before .before .before .before .before .args .w) e)
 
-image-requires : tie.Need-image-requires Inv-loop μ-loop
-image-requires c κs = let s = c .before .before .before .before .before in omega (arith, c .before .before .loop .inv .1 .upto, s .pre .0 .1)
+image-at-requires : tie.Need-image-at-requires Inv-loop μ-loop
+image-at-requires c κs = let s = c .before .before .before .before .before in omega (arith, c .before .before .loop .inv .1 .upto, s .pre .0 .1)
 
 rem-port : tie.Need-rem-port Inv-loop μ-loop
 rem-port c = search needs
 
 -- the place of the head is one of the heads
-within : (c : tie.After-image Inv-loop μ-loop) → c .before .bank-before .result * mostWidth + c .image .result % c .before .before .before .before .before .before .args .w < headCount
+within : (c : tie.After-image-at Inv-loop μ-loop) → c .before .bank-before .result * mostWidth + c .image-at .result % c .before .before .before .before .before .before .args .w < headCount
 within c =
     let s = c .before .before .before .before .before .before in
-    omega (arith, banked (c .before), mod-lt (c .before .before .before .loop .i - 1) (s .pre .0 .0 .wide), mod-lt (c .image .result) (s .pre .0 .0 .wide), s .pre .0 .0 .narrow)
+    omega (arith, banked (c .before), mod-lt (c .before .before .before .loop .i - 1) (s .pre .0 .0 .wide), mod-lt (c .image-at .result) (s .pre .0 .0 .wide), s .pre .0 .0 .narrow)
 
 mul-place : tie.Need-mul-place Inv-loop μ-loop
 mul-place c = omega (arith, within c)
@@ -79,7 +80,7 @@ join-requires c κs =
     let s = c .before .before .before .before .before .before .before in
     let l = c .before .before .before .before .loop in
     let bank : c .before .before .bank-before .result < mostWidth = omega (arith, banked (c .before .before), mod-lt (l .i - 1) (s .pre .0 .0 .wide), s .pre .0 .0 .narrow) in
-    let port : c .before .image .result % s .args .w < mostWidth = omega (arith, mod-lt (c .before .image .result) (s .pre .0 .0 .wide), s .pre .0 .0 .narrow) in
+    let port : c .before .image-at .result % s .args .w < mostWidth = omega (arith, mod-lt (c .before .image-at .result) (s .pre .0 .0 .wide), s .pre .0 .0 .narrow) in
     (l .inv .2 .long, omega (arith, bank, port), omega (arith, bank, port))
 
 loop-less : tie.Need-loop-less Inv-loop μ-loop
@@ -90,11 +91,11 @@ loop-again c =
     let s = c .before .before .before .before .before .before .before .before in
     let l = c .before .before .before .before .before .loop in
     let e : l .i ≡ l .i - 1 + 1 = omega (arith, c .before .before .before .before .loop-test .taken) in
-    let C = subst (λ (z : ℕ). Chaining (s .args .n) (s .args .w) (λ j. getD (s .args .images .now) j 0) (s .args .next .now) z (l .next) (l .heads)) e (l .inv .1) in
-    let inside : c .before .before .before .bank-before .result * mostWidth + c .before .before .image .result % s .args .w < length (l .heads) = omega (arith, within (c .before .before), l .inv .1 .headed .long) in (
+    let C = subst (λ (z : ℕ). Chaining (s .args .n) (s .args .w) (orderOf (s .args .n) (s .args .images .now)) (s .args .next .now) z (l .next) (l .heads)) e (l .inv .1) in
+    let inside : c .before .before .before .bank-before .result * mostWidth + c .before .before .image-at .result % s .args .w < length (l .heads) = omega (arith, within (c .before .before), l .inv .1 .headed .long) in (
       banked (c .before .before .before),
-      rw (banked (c .before .before .before), c .before .before .image .ensures .0) (chaining-more (s .pre .0 .0) (s .pre .0 .2) C),
-      drawn-more (s .pre .0 .0 .narrow) (mod-lt (c .before .before .image .result) (s .pre .0 .0 .wide)) inside (λ q. omega (arith, l .inv .1 .upto, s .pre .0 .0 .few)) (l .inv .2) (c .join .ensures),
+      rw (banked (c .before .before .before), c .before .before .image-at .ensures .0) (chaining-more (s .pre .0 .0) (s .pre .0 .2) C),
+      drawn-more (s .pre .0 .0 .narrow) (mod-lt (c .before .before .image-at .result) (s .pre .0 .0 .wide)) inside (λ q. omega (arith, l .inv .1 .upto, s .pre .0 .0 .few)) (l .inv .2) (c .join .ensures),
     )
 
 same-length : tie.Need-same-length Inv-loop μ-loop
@@ -106,7 +107,7 @@ returns c =
     let l = c .before .loop in
     let e : l .i ≡ 0 = omega arith in (
       chaining-all (s .pre .0 .0)
-          (subst (λ (z : ℕ). Chaining (s .args .n) (s .args .w) (λ j. getD (s .args .images .now) j 0) (s .args .next .now) z (l .next) (l .heads)) e (l .inv .1)),
+          (subst (λ (z : ℕ). Chaining (s .args .n) (s .args .w) (orderOf (s .args .n) (s .args .images .now)) (s .args .next .now) z (l .next) (l .heads)) e (l .inv .1)),
       l .inv .2,
     )
 
@@ -119,7 +120,7 @@ chain-spec =
     loop-holds
     sub-i
     bank-before-requires
-    image-requires
+    image-at-requires
     rem-port
     mul-place
     add-place

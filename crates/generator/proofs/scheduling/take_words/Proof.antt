@@ -2,7 +2,7 @@
 use Prim.Native.Nat.{_-_, _≤_}
 use mathlib.Core.Path.{_≡_}
 use native.Mathlib.Omega.{arith}
-use Rattle.generator.specs.Schedule.{Takes}
+use Rattle.generator.specs.inner.Schedule.{Takes}
 use Rattle.generator.proofs.Advances.{takes-none, takes-more, takes-owned, takes-along, takes-inside}
 use borrow.Author.Needs.{needs}
 use Rattle.generator.proofs.scheduling.take_words.Statement.{statement}

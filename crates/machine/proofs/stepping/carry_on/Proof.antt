@@ -3,7 +3,6 @@ use Prim.Native.Nat.{ℕ}
 use mathlib.Core.Path.{ap, _∙_}
 use native.Mathlib.Omega.{arith}
 use borrow.Author.Needs.{needs}
-use Rattle.tables.proofs.Lined.{shape-cycles}
 use Rattle.machine.proofs.Indexes.{shape-few}
 use Rattle.machine.proofs.LineTests.{saying, outcome-same, accepted-moving}
 use Rattle.machine.proofs.stepping.carry_on.Statement.{statement}
@@ -21,8 +20,8 @@ enter-requires c κs = search needs
 answer-requires : tie.Need-answer-requires
 answer-requires c κs =
     let s = c .before .before .before .before .before .before .before .before .before .before .before .before .before .before .before .before .before .before .before .before .before in (
-      omega (arith, s .pre, shape-cycles (s .args .shape) (s .pre .0 .1)),
-      shape-few (s .args .shape) (s .pre .0 .0) (s .pre .0 .1),
+      omega (arith, s .pre, s .pre .0 .cycles),
+      shape-few (s .pre .0),
       s .pre .1 .1 .0 .1,
       s .pre .1 .1 .0 .3,
     )
@@ -40,7 +39,7 @@ returns : tie.Need-returns
 returns c =
     let s = c .before .before .before .before .before .before .before .before .before .before .before .before .before .before .before .before .before .before .before .before .before .before in
     λ file line within.
-    outcome-same (c .answer .ensures ∙ ap (λ (z : ℕ). saying z (s .args .clock)) (shape-cycles (s .args .shape) (s .pre .0 .1)))
+    outcome-same (c .answer .ensures ∙ ap (λ (z : ℕ). saying z (s .args .clock)) (s .pre .0 .cycles))
     (c .before .before .before .enter .ensures) (c .before .before .before .before .before .before .before .move-line .ensures file line within) (c .before .before .before .before .before .before .before .before .before .before .before .before .leave .ensures)
     ∙ accepted-moving (s .args .shape .words) (s .args .shape .width) file (s .args .clock) (s .args .first .now) (s .args .second .now)
     (s .args .words .now) (s .args .out .now) (s .pre .1 .1 .0 .2)

@@ -47,7 +47,7 @@ mul-spot-of c = omega (arith, c .shared-slice-known5 .given (c .before .before .
 shared-slice-read-spot-of : tie.Need-shared-slice-read-spot-of Inv-loop μ-loop
 shared-slice-read-spot-of c =
     let s = c .before .before .before .before .before .before .before .before .before .before .before in
-    omega (arith, takes s .sources-below (c .before .before .before .before .loop .k) (c .before .before .if1 .taken), takes s .reads-long, s .pre .0 .0 .narrow)
+    omega (arith, takes s .sources-below (c .before .before .before .before .loop .k) (c .before .before .if1 .taken), takes s .reads-long, s .pre .0 .dims .narrow)
 
 cast-spot-of : tie.Need-cast-spot-of Inv-loop μ-loop
 cast-spot-of c = omega (arith, c .shared-slice-known6 .given (getD (c .before .before .before .before .before .before .before .before .before .before .before .args .sources .now) (c .before .before .before .before .loop .k) 0))

@@ -5,42 +5,42 @@ use Rattle.machine.proofs.stepping.spot_of.Statement.{statement}
 use Rattle.machine.proofs.stepping.spot_of.Tie as tie
 
 mul-result : tie.Need-mul-result
-mul-result c = let s = c .before in omega (arith, shape-few (s .args .shape) (s .pre .0 .0) (s .pre .0 .1))
+mul-result c = let s = c .before in omega (arith, shape-few (s .pre .0))
 
 mul-result-2 : tie.Need-mul-result-2
 mul-result-2 c =
     let s = c .before in
-    let i = index-inside (s .args .shape) (s .pre .0 .0) (s .pre .0 .1) (s .args .half) (s .args .bank) (s .args .address) (s .pre .1 .0)
+    let i = index-inside (s .pre .0) (s .args .half) (s .args .bank) (s .args .address) (s .pre .1 .0)
     (s .pre .1 .1) (s .pre .1 .2) in
-    omega (arith, i, s .pre .0 .0 .few)
+    omega (arith, i, s .pre .0 .dims .few)
 
 mul-result-3 : tie.Need-mul-result-3
 mul-result-3 c =
     let s = c .before .before in
-    let i = index-inside (s .args .shape) (s .pre .0 .0) (s .pre .0 .1) (s .args .half) (s .args .bank) (s .args .address) (s .pre .1 .0)
+    let i = index-inside (s .pre .0) (s .args .half) (s .args .bank) (s .args .address) (s .pre .1 .0)
     (s .pre .1 .1) (s .pre .1 .2) in
-    omega (arith, i, s .pre .0 .0 .few)
+    omega (arith, i, s .pre .0 .dims .few)
 
 add-result : tie.Need-add-result
 add-result c =
     let s = c .before .before in
-    let i = index-inside (s .args .shape) (s .pre .0 .0) (s .pre .0 .1) (s .args .half) (s .args .bank) (s .args .address) (s .pre .1 .0)
+    let i = index-inside (s .pre .0) (s .args .half) (s .args .bank) (s .args .address) (s .pre .1 .0)
     (s .pre .1 .1) (s .pre .1 .2) in
-    omega (arith, i, s .pre .0 .0 .few)
+    omega (arith, i, s .pre .0 .dims .few)
 
 add-result-2 : tie.Need-add-result-2
 add-result-2 c =
     let s = c .before .before in
-    let i = index-inside (s .args .shape) (s .pre .0 .0) (s .pre .0 .1) (s .args .half) (s .args .bank) (s .args .address) (s .pre .1 .0)
+    let i = index-inside (s .pre .0) (s .args .half) (s .args .bank) (s .args .address) (s .pre .1 .0)
     (s .pre .1 .1) (s .pre .1 .2) in
-    omega (arith, i, s .pre .0 .0 .few)
+    omega (arith, i, s .pre .0 .dims .few)
 
 returns : tie.Need-returns
 returns c =
     let s = c .before .before in
-    let i = index-inside (s .args .shape) (s .pre .0 .0) (s .pre .0 .1) (s .args .half) (s .args .bank) (s .args .address) (s .pre .1 .0)
+    let i = index-inside (s .pre .0) (s .args .half) (s .args .bank) (s .args .address) (s .pre .1 .0)
     (s .pre .1 .1) (s .pre .1 .2) in
-    (index-spot (s .args .shape) (s .pre .0 .0) (s .pre .0 .1) (s .args .half) (s .args .bank) (s .args .address), i)
+    (index-spot (s .pre .0) (s .args .half) (s .args .bank) (s .args .address), i)
 
 pub spot-of-spec : {M : Type 1} → statement M
 spot-of-spec =

@@ -7,7 +7,7 @@ use native.Mathlib.Omega.{arith}
 use borrow.Author.Needs.{needs}
 use Rattle.tables.specs.Datapath.{readStrays, carryStrays, writeStrays, strays}
 use Rattle.tables.proofs.Dims.{depth-reaches, lines-few}
-use Rattle.tables.proofs.Lined.{reads-stray, writes-stray, spare-strays, shape-cycles, shape-lines}
+use Rattle.tables.proofs.Lined.{reads-stray, writes-stray, spare-strays}
 use Rattle.machine.proofs.LineTests.{read-refused, carry-refused, write-refused, line-passed, none-stray}
 use Rattle.machine.proofs.stepping.step_line.Statement.{statement}
 use Rattle.machine.proofs.stepping.step_line.Tie as tie
@@ -21,19 +21,19 @@ no-read : (c : tie.Else1) → own readStrays (c .before .before .before .before 
 no-read c =
     let s = c .before .before .before .before .before .before .before .before .before .before .before .before .before .before .before .before .before in
     sym (reads-stray (c .before .before .before .before .before .before .before .line-at .ensures .1))
-    ∙ rw (shape-cycles (s .args .shape) (s .pre .0 .1)) at (sym (c .before .any-from .ensures) ∙ c .if1 .left)
+    ∙ rw (s .pre .0 .cycles) at (sym (c .before .any-from .ensures) ∙ c .if1 .left)
 
 no-carry : (c : tie.Else2) → own carryStrays (c .before .before .before .before .before .before .before .before .before .before .before .before .before .before .before .before .before .before .before .before) ≡ false
 no-carry c =
     let s = c .before .before .before .before .before .before .before .before .before .before .before .before .before .before .before .before .before .before .before .before in
     sym (spare-strays (c .before .before .before .before .before .before .before .before .before .before .line-at .ensures .1))
-    ∙ rw (shape-lines (s .args .shape) (s .pre .0 .1)) at (sym (c .before .spare-used .ensures) ∙ c .if2 .left)
+    ∙ rw (s .pre .0 .lines) at (sym (c .before .spare-used .ensures) ∙ c .if2 .left)
 
 no-write : (c : tie.Else3) → own writeStrays (c .before .before .before .before .before .before .before .before .before .before .before .before .before .before .before .before .before .before .before .before .before .before .before) ≡ false
 no-write c =
     let s = c .before .before .before .before .before .before .before .before .before .before .before .before .before .before .before .before .before .before .before .before .before .before .before in
     sym (writes-stray (c .before .before .before .before .before .before .before .before .before .before .before .before .before .line-at .ensures .1))
-    ∙ rw (shape-cycles (s .args .shape) (s .pre .0 .1)) at (sym (c .before .any-from2 .ensures) ∙ c .if3 .left)
+    ∙ rw (s .pre .0 .cycles) at (sym (c .before .any-from2 .ensures) ∙ c .if3 .left)
 
 none : (c : tie.Else3) → own strays (c .before .before .before .before .before .before .before .before .before .before .before .before .before .before .before .before .before .before .before .before .before .before .before) ≡ false
 none c = none-stray _ _ _ _ (no-read (c .before .before .before .before .before .before)) (no-carry (c .before .before .before)) (no-write c)
@@ -63,7 +63,7 @@ returns : tie.Need-returns
 returns c =
     let s = c .before .before .before .before .before .before .before .before .before .before .before .before .before .before .before .before .before in
     let far = sym (reads-stray (c .before .before .before .before .before .before .before .line-at .ensures .1))
-    ∙ rw (shape-cycles (s .args .shape) (s .pre .0 .1)) at (sym (c .before .any-from .ensures) ∙ c .if1 .taken) in
+    ∙ rw (s .pre .0 .cycles) at (sym (c .before .any-from .ensures) ∙ c .if1 .taken) in
     read-refused _ _ _ _ _ _ (s .pre .1 .1 .2) far
 
 slice-aggregate-spare-used : tie.Need-slice-aggregate-spare-used
@@ -72,14 +72,14 @@ slice-aggregate-spare-used c = search needs
 spare-used-requires : tie.Need-spare-used-requires
 spare-used-requires c κs =
     let s = c .before .before .before .before .before .before .before .before .before .before .before .before .before .before .before .before .before .before in
-    let v = shape-lines (s .args .shape) (s .pre .0 .1) in
-    (rw v (depth-reaches (s .args .shape .width)), omega (arith, c .before .before .before .before .before .before .before .before .line-at .ensures .1 .carrying .long, v, lines-few (s .pre .0 .0)))
+    let v = s .pre .0 .lines in
+    (rw v (depth-reaches (s .args .shape .width)), omega (arith, c .before .before .before .before .before .before .before .before .line-at .ensures .1 .carrying .long, v, lines-few (s .pre .0 .dims)))
 
 returns-2 : tie.Need-returns-2
 returns-2 c =
     let s = c .before .before .before .before .before .before .before .before .before .before .before .before .before .before .before .before .before .before .before .before in
     let far = sym (spare-strays (c .before .before .before .before .before .before .before .before .before .before .line-at .ensures .1))
-    ∙ rw (shape-lines (s .args .shape) (s .pre .0 .1)) at (sym (c .before .spare-used .ensures) ∙ c .if2 .taken) in
+    ∙ rw (s .pre .0 .lines) at (sym (c .before .spare-used .ensures) ∙ c .if2 .taken) in
     carry-refused _ _ _ _ _ _ (s .pre .1 .1 .2) (no-read (c .before .before .before)) far
 
 slice-aggregate-any-from-2 : tie.Need-slice-aggregate-any-from-2
@@ -92,7 +92,7 @@ returns-3 : tie.Need-returns-3
 returns-3 c =
     let s = c .before .before .before .before .before .before .before .before .before .before .before .before .before .before .before .before .before .before .before .before .before .before .before in
     let far = sym (writes-stray (c .before .before .before .before .before .before .before .before .before .before .before .before .before .line-at .ensures .1))
-    ∙ rw (shape-cycles (s .args .shape) (s .pre .0 .1)) at (sym (c .before .any-from2 .ensures) ∙ c .if3 .taken) in
+    ∙ rw (s .pre .0 .cycles) at (sym (c .before .any-from2 .ensures) ∙ c .if3 .taken) in
     write-refused _ _ _ _ _ _ (s .pre .1 .1 .2) (no-read (c .before .before .before .before .before .before)) (no-carry (c .before .before .before)) far
 
 slice-aggregate-carry-on : tie.Need-slice-aggregate-carry-on

@@ -5,7 +5,6 @@ use native.Mathlib.Omega.{arith}
 use borrow.Author.Needs.{needs}
 use Rattle.laws.proofs.Choices.{ifLt-yes, ifLt-no, ifLe-yes, ifLe-no, ifEq-no}
 use Rattle.tables.specs.Terms.{cycles}
-use Rattle.tables.proofs.Lined.{shape-cycles}
 use Rattle.machine.specs.Step.{outcome, accepted, lineTest, clockTest, stepLine}
 use Rattle.machine.specs.declared.Stepped.the-variants.{Refused}
 use Rattle.machine.proofs.LineTests.{lengths-pass}
@@ -27,7 +26,7 @@ passed c = lengths-pass _ _ _ _ _ _ _ _ (c .before .before .before .before .befo
 
 -- and the clock's cycle
 before-end : (c : tie.Else5) → c .before .before .before .before .before .before .before .before .before .before .before .before .before .before .before .args .clock .cycle < cycles (c .before .before .before .before .before .before .before .before .before .before .before .before .before .before .before .args .shape .words) (c .before .before .before .before .before .before .before .before .before .before .before .before .before .before .before .args .shape .width)
-before-end c = let s = c .before .before .before .before .before .before .before .before .before .before .before .before .before .before .before in rw (shape-cycles (s .args .shape) (s .pre .1)) at (c .if5 .left)
+before-end c = let s = c .before .before .before .before .before .before .before .before .before .before .before .before .before .before .before in rw (s .pre .cycles) at (c .if5 .left)
 
 mul-need : tie.Need-mul-need
 mul-need c = search needs
@@ -51,7 +50,7 @@ returns-4 c = ifLt-no _ _ _ _ _ (c .before .before .before .before .before .if1 
 returns-5 : tie.Need-returns-5
 unfolding clockTest
 returns-5 c =
-    let s = c .before .before .before .before .before .before .before .before .before .before .before .before .before .before .before in ifLe-yes _ _ _ _ _ (rw (shape-cycles (s .args .shape) (s .pre .1)) at (c .if5 .taken)) refl ∙ passed (c .before .before .before)
+    let s = c .before .before .before .before .before .before .before .before .before .before .before .before .before .before .before in ifLe-yes _ _ _ _ _ (rw (s .pre .cycles) at (c .if5 .taken)) refl ∙ passed (c .before .before .before)
 
 returns-6 : tie.Need-returns-6
 unfolding clockTest

@@ -10,7 +10,7 @@ use lib.ListN.{length, getD, take, drop}
 use Rattle.laws.specs.Splice.{part}
 use Rattle.laws.proofs.Splices.{length-part}
 use Rattle.network.specs.Network.{leaves}
-use Rattle.network.specs.Steps.{innerCount}
+use Rattle.network.specs.inner.Steps.{innerCount}
 use Rattle.network.proofs.Sizes.{Parted, parted, one-leaves, half-times, lent-part, leaves-level}
 use Rattle.network.proofs.following.walk.Reads as walk
 use Rattle.network.proofs.following.walk.Kinds as walk-kinds

@@ -5,7 +5,7 @@ use mathlib.Core.Path.{_≡_, refl}
 use native.Mathlib.Omega.{arith}
 use borrow.Author.Needs.{needs}
 use lib.ListN.{length, length-set}
-use Rattle.network.specs.Steps.{Joined}
+use Rattle.network.specs.inner.Steps.{Joined}
 use Rattle.network.proofs.Routes.{joined-none, joined-more, joined-last}
 use Rattle.network.proofs.routing.give_out.Statement.{statement}
 use Rattle.network.proofs.routing.give_out.Tie as tie

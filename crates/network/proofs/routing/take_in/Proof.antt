@@ -4,7 +4,7 @@ use mathlib.Core.Path.{_≡_}
 use native.Mathlib.Omega.{arith}
 use borrow.Author.Needs.{needs}
 use lib.ListN.{length}
-use Rattle.network.specs.Steps.{Taken}
+use Rattle.network.specs.inner.Steps.{Taken}
 use Rattle.network.proofs.Routes.{taken-none, taken-more}
 use Rattle.network.proofs.routing.take_in.Statement.{statement}
 use Rattle.network.proofs.routing.take_in.Tie as tie

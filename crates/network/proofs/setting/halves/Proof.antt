@@ -6,7 +6,7 @@ use native.Mathlib.Omega.{arith}
 use borrow.Author.Needs.{needs}
 use lib.ListN.{length, getD}
 use Rattle.network.specs.Network.{partner}
-use Rattle.network.specs.Steps.{startAt}
+use Rattle.network.specs.inner.Steps.{startAt}
 use Rattle.network.proofs.Painting.{weight, Before, Walking, before-none, start-below, before-skip, before-end, walking-start, walking-below, partner-few, goes-below, walking-on, walking-closed, walking-lighter}
 use Rattle.network.proofs.setting.halves.Statement.{statement}
 use Rattle.network.proofs.setting.halves.Tie as tie

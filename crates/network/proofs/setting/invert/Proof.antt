@@ -4,7 +4,7 @@ use native.Mathlib.Omega.{arith}
 use borrow.Author.Needs.{needs}
 use lib.ListN.{length-replicate}
 use Rattle.limits.specs.Limits.{mostWidth}
-use Rattle.network.specs.Steps.{Inverting}
+use Rattle.network.specs.inner.Steps.{Inverting}
 use Rattle.network.proofs.Wires.{inverting-more}
 use Rattle.network.proofs.setting.invert.Statement.{statement}
 use Rattle.network.proofs.setting.invert.Tie as tie

@@ -4,7 +4,7 @@ use mathlib.Core.Path.{_≡_, refl}
 use native.Mathlib.Omega.{arith}
 use borrow.Author.Needs.{needs}
 use lib.ListN.{length, getD}
-use Rattle.network.specs.Steps.{Divided}
+use Rattle.network.specs.inner.Steps.{Divided}
 use Rattle.network.proofs.Wires.{divided-none, divided-more}
 use Rattle.network.proofs.setting.set_inputs.Statement.{statement}
 use Rattle.network.proofs.setting.set_inputs.Tie as tie

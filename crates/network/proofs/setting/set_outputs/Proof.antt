@@ -5,7 +5,7 @@ use mathlib.Core.Path.{_≡_, refl, ap}
 use native.Mathlib.Omega.{arith}
 use borrow.Author.Needs.{needs}
 use lib.ListN.{length, getD}
-use Rattle.network.specs.Steps.{Divided}
+use Rattle.network.specs.inner.Steps.{Divided}
 use Rattle.network.proofs.Wires.{divided-none, divided-more, divided-last}
 use Rattle.network.proofs.setting.set_outputs.Statement.{statement}
 use Rattle.network.proofs.setting.set_outputs.Tie as tie

@@ -4,7 +4,7 @@ use borrow.Author.Needs.{needs}
 use Prim.Native.Nat.{ℕ}
 use Rattle.laws.proofs.Choices.{ifEq-yes, ifEq-no}
 use Rattle.network.specs.Network.{partner}
-use Rattle.network.specs.Steps.{startAt}
+use Rattle.network.specs.inner.Steps.{startAt}
 use Rattle.network.proofs.setting.start_of.Statement.{statement}
 use Rattle.network.proofs.setting.start_of.Tie as tie
 

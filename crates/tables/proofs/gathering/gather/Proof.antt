@@ -6,9 +6,8 @@ use native.Mathlib.Omega.{arith}
 use borrow.Author.Needs.{needs}
 use lib.ListN.{length, length-replicate}
 use Rattle.limits.specs.Limits.{mostWidth, mostSwitches}
-use Rattle.tables.specs.Gathering.{Gathers}
+use Rattle.tables.specs.inner.Gathering.{Gathers}
 use Rattle.tables.specs.declared.gathering.Gathered.{Gathered}
-use Rattle.tables.proofs.Lined.{shape-cycles}
 use Rattle.tables.proofs.Gathers.{Gathering, gathering-none, gathering-more, gathering-refused, gathering-all}
 use Rattle.tables.proofs.gathering.gather.Statement.{statement}
 use Rattle.tables.proofs.gathering.gather.Tie as tie
@@ -40,7 +39,7 @@ gather-line-requires : tie.Need-gather-line-requires Inv-loop μ-loop
 gather-line-requires c κs =
     let s = c .before .before .before .before .before .before .before .before .before .before .before in
     let held = c .before .before .before .before .before .before .before .loop .inv in (
-      (s .pre .0 .0, s .pre .0 .1, rw (shape-cycles (s .args .shape) (s .pre .0 .1)) at (c .before .before .before .before .before .before .loop-test .taken)),
+      (s .pre .0, rw (s .pre .0 .cycles) at (c .before .before .before .before .before .before .loop-test .taken)),
       ((held .1, held .2, held .3, held .4), held .0 .gathered),
     )
 
@@ -57,7 +56,7 @@ returns : tie.Need-returns Inv-loop μ-loop
 returns c =
     let s = c .before .before .before .before .before .before .before .before .before .before .before .before .before .before .before .before .before .before .before .before .before .before .before in
     let line = c .before .before .before .before .before .before .before .before .before .before .before .gather-line in
-    gathering-refused (c .before .before .before .before .before .before .before .before .before .before .before .before .before .before .before .before .before .before .before .loop .inv .0) (rw (shape-cycles (s .args .shape) (s .pre .0 .1)) at (c .before .before .before .before .before .before .before .before .before .before .before .before .before .before .before .before .before .before .loop-test .taken))
+    gathering-refused (c .before .before .before .before .before .before .before .before .before .before .before .before .before .before .before .before .before .before .before .loop .inv .0) (rw (s .pre .0 .cycles) at (c .before .before .before .before .before .before .before .before .before .before .before .before .before .before .before .before .before .before .loop-test .taken))
     (subst (λ (g : Gathered). Gathers (s .args .shape .words) (s .args .shape .width) (s .args .file .now) (c .before .before .before .before .before .before .before .before .before .before .before .before .before .before .before .before .before .before .before .loop .t) g (line .last .1 .1 .1 .0) (line .last .1 .1 .1 .1 .0)) (c .before .gathered .given .1) (line .ensures))
 
 enum-told : tie.Need-enum-told Inv-loop μ-loop
@@ -74,7 +73,7 @@ loop-again c =
     let s = c .before .before .before .before .before .before .before .before .before .before .before .before .before .before .before .before .before .before .before .before .before .before in
     let line = c .before .before .before .before .before .before .before .before .before .before .gather-line in
     let held = c .before .before .before .before .before .before .before .before .before .before .before .before .before .before .before .before .before .before .loop .inv in (
-      gathering-more (held .0) (rw (shape-cycles (s .args .shape) (s .pre .0 .1)) at (c .before .before .before .before .before .before .before .before .before .before .before .before .before .before .before .before .before .loop-test .taken))
+      gathering-more (held .0) (rw (s .pre .0 .cycles) at (c .before .before .before .before .before .before .before .before .before .before .before .before .before .before .before .before .before .loop-test .taken))
           (subst (λ (g : Gathered). Gathers (s .args .shape .words) (s .args .shape .width) (s .args .file .now) (c .before .before .before .before .before .before .before .before .before .before .before .before .before .before .before .before .before .before .loop .t) g (line .last .1 .1 .1 .0) (line .last .1 .1 .1 .1 .0)) (c .enum-told .given .1) (line .ensures)),
       line .kept .1 .1 .1 .1 .1 .0 ∙ held .1,
       line .kept .1 .1 .1 .1 .1 .1 .0 ∙ held .2,
@@ -91,7 +90,7 @@ same-length-4 c = c .before .loop .inv .0 .gathered .long′ ∙ sym (c .before 
 returns-2 : tie.Need-returns-2 Inv-loop μ-loop
 returns-2 c =
     let s = c .before .before .before .before .before in
-    gathering-all (c .before .loop .inv .0) (rw (shape-cycles (s .args .shape) (s .pre .0 .1)) at (c .loop-test .left))
+    gathering-all (c .before .loop .inv .0) (rw (s .pre .0 .cycles) at (c .loop-test .left))
 
 pub gather-spec : {M : Type 1} → statement M
 gather-spec =

@@ -10,7 +10,7 @@ use Rattle.tables.specs.Datapath.{carryStrays}
 use Rattle.tables.specs.Reading.{readFault, writeFault}
 use Rattle.tables.proofs.Dims.{cycles-mul, depth-reaches, lines-few}
 use Rattle.tables.proofs.Accepted.{scan-read, scan-carry, scan-write}
-use Rattle.tables.proofs.Lined.{spare-strays, shape-cycles, shape-lines}
+use Rattle.tables.proofs.Lined.{spare-strays}
 use Rattle.tables.proofs.Gathers.{read-faults, write-faults, markable, gather-more}
 use Rattle.tables.proofs.gathering.gather_line.Statement.{statement}
 use Rattle.tables.proofs.gathering.gather_line.Tie as tie
@@ -27,26 +27,26 @@ writing n w file t = any w (writeFault n w file t)
 
 -- a frame's marks are as long as the frame
 marks-long : (s : tie.Start) → s .args .shape .cycles * s .args .shape .width ≡ s .args .shape .words
-marks-long s = rw (shape-cycles (s .args .shape) (s .pre .0 .1)) (cycles-mul (s .pre .0 .0))
+marks-long s = rw (s .pre .0 .0 .cycles) (cycles-mul (s .pre .0 .0 .dims))
 
 -- what each test that was passed says
 no-read : (c : tie.Else1) → own reading (c .before .before .before .before .before .before .before .before .before .before .before .before .before .before .before .before .before .before .before .before .before .before .before .before) ≡ false
 no-read c =
     let s = c .before .before .before .before .before .before .before .before .before .before .before .before .before .before .before .before .before .before .before .before .before .before .before .before in
-    sym (read-faults (s .pre .0 .0) (s .pre .1 .1) (c .before .before .before .before .before .before .before .before .before .before .before .before .line-at .ensures .1))
-    ∙ rw (shape-cycles (s .args .shape) (s .pre .0 .1)) at (sym (c .before .fault .ensures) ∙ c .if1 .left)
+    sym (read-faults (s .pre .0 .0 .dims) (s .pre .1 .1) (c .before .before .before .before .before .before .before .before .before .before .before .before .line-at .ensures .1))
+    ∙ rw (s .pre .0 .0 .cycles) at (sym (c .before .fault .ensures) ∙ c .if1 .left)
 
 no-carry : (c : tie.Else2) → own carryStrays (c .before .before .before .before .before .before .before .before .before .before .before .before .before .before .before .before .before .before .before .before .before .before .before .before .before .before .before) ≡ false
 no-carry c =
     let s = c .before .before .before .before .before .before .before .before .before .before .before .before .before .before .before .before .before .before .before .before .before .before .before .before .before .before .before in
     sym (spare-strays (c .before .before .before .before .before .before .before .before .before .before .before .before .before .before .before .line-at .ensures .1))
-    ∙ rw (shape-lines (s .args .shape) (s .pre .0 .1)) at (sym (c .before .spare-used .ensures) ∙ c .if2 .left)
+    ∙ rw (s .pre .0 .0 .lines) at (sym (c .before .spare-used .ensures) ∙ c .if2 .left)
 
 no-write : (c : tie.Else3) → own writing (c .before .before .before .before .before .before .before .before .before .before .before .before .before .before .before .before .before .before .before .before .before .before .before .before .before .before .before .before .before .before .before) ≡ false
 no-write c =
     let s = c .before .before .before .before .before .before .before .before .before .before .before .before .before .before .before .before .before .before .before .before .before .before .before .before .before .before .before .before .before .before .before in
-    sym (write-faults (s .pre .0 .0) (s .pre .1 .1) (c .before .before .before .before .before .before .before .before .before .before .before .before .before .before .before .before .before .before .before .line-at .ensures .1))
-    ∙ rw (shape-cycles (s .args .shape) (s .pre .0 .1)) at (sym (c .before .fault2 .ensures) ∙ c .if3 .left)
+    sym (write-faults (s .pre .0 .0 .dims) (s .pre .1 .1) (c .before .before .before .before .before .before .before .before .before .before .before .before .before .before .before .before .before .before .before .line-at .ensures .1))
+    ∙ rw (s .pre .0 .0 .cycles) at (sym (c .before .fault2 .ensures) ∙ c .if3 .left)
 
 line-at-requires : tie.Need-line-at-requires
 line-at-requires c κs = search needs
@@ -55,7 +55,7 @@ fault-requires : tie.Need-fault-requires
 fault-requires c κs =
     let s = c .before .before .before .before .before .before .before .before .before .before .before .before .before .before .before .before .before .before .before .before .before .before in
     let L = c .before .before .before .before .before .before .before .before .before .before .line-at .ensures .1 in
-    let D = s .pre .0 .0 in
+    let D = s .pre .0 .0 .dims in
     (omega (arith, L .reading .long, D .narrow), D .narrow, omega (arith, marks-long s, s .pre .1 .1 .long, D .few))
 
 same-length : tie.Need-same-length
@@ -76,15 +76,15 @@ same-length-5 c = search needs
 returns : tie.Need-returns
 returns c =
     let s = c .before .before .before .before .before .before .before .before .before .before .before .before .before .before .before .before .before .before .before .before .before .before .before .before in
-    let bad = sym (read-faults (s .pre .0 .0) (s .pre .1 .1) (c .before .before .before .before .before .before .before .before .before .before .before .before .line-at .ensures .1))
-    ∙ rw (shape-cycles (s .args .shape) (s .pre .0 .1)) at (sym (c .before .fault .ensures) ∙ c .if1 .taken) in
+    let bad = sym (read-faults (s .pre .0 .0 .dims) (s .pre .1 .1) (c .before .before .before .before .before .before .before .before .before .before .before .before .line-at .ensures .1))
+    ∙ rw (s .pre .0 .0 .cycles) at (sym (c .before .fault .ensures) ∙ c .if1 .taken) in
     λ k refused next. scan-read _ _ _ refused next k _ bad
 
 spare-used-requires : tie.Need-spare-used-requires
 spare-used-requires c κs =
     let s = c .before .before .before .before .before .before .before .before .before .before .before .before .before .before .before .before .before .before .before .before .before .before .before .before .before in
-    let v = shape-lines (s .args .shape) (s .pre .0 .1) in
-    (rw v (depth-reaches (s .args .shape .width)), omega (arith, c .before .before .before .before .before .before .before .before .before .before .before .before .before .line-at .ensures .1 .carrying .long, v, lines-few (s .pre .0 .0)))
+    let v = s .pre .0 .0 .lines in
+    (rw v (depth-reaches (s .args .shape .width)), omega (arith, c .before .before .before .before .before .before .before .before .before .before .before .before .before .line-at .ensures .1 .carrying .long, v, lines-few (s .pre .0 .0 .dims)))
 
 same-length-6 : tie.Need-same-length-6
 same-length-6 c = search needs
@@ -105,14 +105,14 @@ returns-2 : tie.Need-returns-2
 returns-2 c =
     let s = c .before .before .before .before .before .before .before .before .before .before .before .before .before .before .before .before .before .before .before .before .before .before .before .before .before .before .before in
     let bad = sym (spare-strays (c .before .before .before .before .before .before .before .before .before .before .before .before .before .before .before .line-at .ensures .1))
-    ∙ rw (shape-lines (s .args .shape) (s .pre .0 .1)) at (sym (c .before .spare-used .ensures) ∙ c .if2 .taken) in
+    ∙ rw (s .pre .0 .0 .lines) at (sym (c .before .spare-used .ensures) ∙ c .if2 .taken) in
     λ k refused next. scan-carry _ _ _ refused next k _ (no-read (c .before .before .before)) bad
 
 fault-requires-2 : tie.Need-fault-requires-2
 fault-requires-2 c κs =
     let s = c .before .before .before .before .before .before .before .before .before .before .before .before .before .before .before .before .before .before .before .before .before .before .before .before .before .before .before .before .before in
     let L = c .before .before .before .before .before .before .before .before .before .before .before .before .before .before .before .before .before .line-at .ensures .1 in
-    let D = s .pre .0 .0 in
+    let D = s .pre .0 .0 .dims in
     (omega (arith, L .writing .long, D .narrow), D .narrow, omega (arith, marks-long s, s .pre .1 .1 .long′, D .few))
 
 same-length-11 : tie.Need-same-length-11
@@ -136,14 +136,14 @@ same-length-16 c = search needs
 returns-3 : tie.Need-returns-3
 returns-3 c =
     let s = c .before .before .before .before .before .before .before .before .before .before .before .before .before .before .before .before .before .before .before .before .before .before .before .before .before .before .before .before .before .before .before in
-    let bad = sym (write-faults (s .pre .0 .0) (s .pre .1 .1) (c .before .before .before .before .before .before .before .before .before .before .before .before .before .before .before .before .before .before .before .line-at .ensures .1))
-    ∙ rw (shape-cycles (s .args .shape) (s .pre .0 .1)) at (sym (c .before .fault2 .ensures) ∙ c .if3 .taken) in
+    let bad = sym (write-faults (s .pre .0 .0 .dims) (s .pre .1 .1) (c .before .before .before .before .before .before .before .before .before .before .before .before .before .before .before .before .before .before .before .line-at .ensures .1))
+    ∙ rw (s .pre .0 .0 .cycles) at (sym (c .before .fault2 .ensures) ∙ c .if3 .taken) in
     λ k refused next. scan-write _ _ _ refused next k _ (no-read (c .before .before .before .before .before .before .before)) (no-carry (c .before .before .before .before)) bad
 
 mark-requires : tie.Need-mark-requires
 mark-requires c κs =
     let s = c .before .before .before .before .before .before .before .before .before .before .before .before .before .before .before .before .before .before .before .before .before .before .before .before .before .before .before .before .before .before .before .before .before .before .before .before in
-    markable (s .pre .0 .0) (s .pre .1 .1) (c .before .before .before .before .before .before .before .before .before .before .before .before .before .before .before .before .before .before .before .before .before .before .before .before .line-at .ensures .1) (no-read (c .before .before .before .before .before .before .before .before .before .before .before .before)) (no-carry (c .before .before .before .before .before .before .before .before .before)) (no-write (c .before .before .before .before .before))
+    markable (s .pre .0 .0 .dims) (s .pre .1 .1) (c .before .before .before .before .before .before .before .before .before .before .before .before .before .before .before .before .before .before .before .before .before .before .before .before .line-at .ensures .1) (no-read (c .before .before .before .before .before .before .before .before .before .before .before .before)) (no-carry (c .before .before .before .before .before .before .before .before .before)) (no-write (c .before .before .before .before .before))
 
 same-length-17 : tie.Need-same-length-17
 same-length-17 c = search needs
@@ -166,7 +166,7 @@ same-length-22 c = search needs
 returns-4 : tie.Need-returns-4
 returns-4 c =
     let s = c .before .before .before .before .before .before .before .before .before .before .before .before .before .before .before .before .before .before .before .before .before .before .before .before .before .before .before .before .before .before .before .before .before .before .before .before .before .before .before .before .before in
-    gather-more (s .pre .0 .0) (s .pre .1 .1) (c .before .before .before .before .before .before .before .before .before .before .before .before .before .before .before .before .before .before .before .before .before .before .before .before .before .before .before .before .before .line-at .ensures .1) (no-read (c .before .before .before .before .before .before .before .before .before .before .before .before .before .before .before .before .before)) (no-carry (c .before .before .before .before .before .before .before .before .before .before .before .before .before .before)) (no-write (c .before .before .before .before .before .before .before .before .before .before)) (c .before .before .before .before .mark .ensures)
+    gather-more (s .pre .0 .0 .dims) (s .pre .1 .1) (c .before .before .before .before .before .before .before .before .before .before .before .before .before .before .before .before .before .before .before .before .before .before .before .before .before .before .before .before .before .line-at .ensures .1) (no-read (c .before .before .before .before .before .before .before .before .before .before .before .before .before .before .before .before .before)) (no-carry (c .before .before .before .before .before .before .before .before .before .before .before .before .before .before)) (no-write (c .before .before .before .before .before .before .before .before .before .before)) (c .before .before .before .before .mark .ensures)
 
 pub gather-line-spec : {M : Type 1} → statement M
 gather-line-spec =

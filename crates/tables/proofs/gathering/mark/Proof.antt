@@ -4,7 +4,7 @@ use mathlib.Core.Path.{_≡_}
 use native.Mathlib.Omega.{arith}
 use borrow.Author.Needs.{needs}
 use lib.ListN.{getD}
-use Rattle.tables.specs.Gathering.{Marked}
+use Rattle.tables.specs.inner.Gathering.{Marked}
 use Rattle.tables.proofs.Marks.{marked-none, marked-more}
 use Rattle.tables.proofs.gathering.mark.Statement.{statement}
 use Rattle.tables.proofs.gathering.mark.Tie as tie

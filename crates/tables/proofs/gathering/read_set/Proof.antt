@@ -8,7 +8,7 @@ use Rattle.laws.specs.Tabulate.{overwrite}
 use Rattle.laws.proofs.Choices.{ifLt-yes, ifLt-no}
 use Rattle.laws.proofs.Tabulates.{overwrite-ext}
 use Rattle.tables.specs.Reading.{outcome, imageOf, readLines}
-use Rattle.tables.specs.Gathering.{Gather, GathersAll}
+use Rattle.tables.specs.inner.Gathering.{Gather, GathersAll}
 use Rattle.tables.specs.declared.Reading.the-variants.{Read, Refused}
 use Rattle.tables.specs.declared.gathering.Gathered.{Gathered}
 use Rattle.tables.proofs.Gathers.{gather-none, gather-images, gather-scan}
@@ -33,7 +33,7 @@ slice-aggregate-gather-2 : tie.Need-slice-aggregate-gather-2
 slice-aggregate-gather-2 c = search needs
 
 gather-requires : tie.Need-gather-requires
-gather-requires c κs = let s = c .before .before .before .before .before .before .before in (s .pre, gather-none _ _ _ (s .pre .0))
+gather-requires c κs = let s = c .before .before .before .before .before .before .before in (s .pre, gather-none _ _ _ (s .pre .dims))
 
 enum-known-refusal : tie.Need-enum-known-refusal
 enum-known-refusal c = search needs
@@ -69,7 +69,7 @@ returns-4 c =
     let w = s .args .shape .width in
     let images = s .args .images .now in
     let G : Gathered → Type 0 = λ g. GathersAll n w (s .args .file .now) g (c .before .before .before .before .before .before .before .before .before .gather .last .1 .1 .0) (c .before .before .before .before .before .before .before .before .before .gather .last .1 .1 .1 .0) in
-    let D = s .pre .0 in
+    let D = s .pre .dims in
     let all : Gather n w (s .args .file .now) _ _ _ = subst G (c .before .before .before .before .before .enum-told .given .1) (c .before .before .before .before .before .before .before .before .before .gather .ensures) in
     let made = c .before .before .write-images .ensures ∙ overwrite-ext n _ (imageOf n w (s .args .file .now)) images (gather-images D all) in
     ifLt-no _ _ _ _ _ (c .before .before .before .before .before .before .before .before .before .before .before .before .before .if1 .left) (ifLt-no _ _ _ _ _ (c .before .before .before .before .before .before .before .before .before .before .before .before .if2 .left)

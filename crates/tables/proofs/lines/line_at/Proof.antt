@@ -1,12 +1,13 @@
 -- `lines::line_at` meets its contract: each part of the line is read from where the shape says that it stands.
 use native.Mathlib.Omega.{arith}
+use Rattle.tables.proofs.Opens.{shape-same}
 use Rattle.tables.proofs.Passes.{Fitting, line-fits, line-sized, line-read}
 use borrow.Author.Needs.{needs}
 use Rattle.tables.proofs.lines.line_at.Statement.{statement}
 use Rattle.tables.proofs.lines.line_at.Tie as tie
 
 fits-known : (s : tie.Start) → Fitting (s .args .shape) (s .args .t)
-fits-known s = line-fits (s .pre .0 .0) (s .pre .0 .1) (s .pre .1 .0)
+fits-known s = line-fits (s .pre .0 .dims) (shape-same (s .pre .0)) (s .pre .1 .0)
 
 mul-at : tie.Need-mul-at
 mul-at c = omega (arith, fits-known (c .before .before .before .before .before .before))
@@ -26,7 +27,7 @@ add-sources c = omega (arith, fits-known (c .before .before .before .before .bef
 sources-requires : tie.Need-sources-requires
 sources-requires c κs =
     let s = c .before .before .before .before .before .before .before .before .before .before .before .before .before .before in
-    (line-sized (s .pre .0 .0) (s .pre .0 .1), omega (arith, fits-known s, s .pre .1 .1))
+    (line-sized (s .pre .0 .dims) (shape-same (s .pre .0)), omega (arith, fits-known s, s .pre .1 .1))
 
 add-addresses : tie.Need-add-addresses
 add-addresses c = omega (arith, fits-known (c .before .before .before .before .before .before .before .before .before .before .before .before .before .before .before .before .before .before .before))
@@ -53,7 +54,7 @@ returns : tie.Need-returns
 returns c =
     let s = c .before .before .before .before .before .before .before .before .before .before .before .before .before .before .before .before .before .before .before .before .before .before .before .before in
     let standing = c .before .before .before .before .before .before .before .before .before .sources .ensures in
-    (standing .0, line-read (s .pre .0 .0) (s .pre .0 .1) (c .before .before .before .before .before .before .before .before .before .before .before .before .before .before .addresses .ensures) (standing .1) (c .before .before .addresses2 .ensures))
+    (standing .0, line-read (s .pre .0 .dims) (shape-same (s .pre .0)) (c .before .before .before .before .before .before .before .before .before .before .before .before .before .before .addresses .ensures) (standing .1) (c .before .before .addresses2 .ensures))
 
 pub line-at-spec : {M : Type 1} → statement M
 line-at-spec =

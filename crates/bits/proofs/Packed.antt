@@ -5,25 +5,18 @@ use mathlib.Core.Path.{_≡_, sym, ap, _∙_}
 use mathlib.Core.List.{List, _++_}
 use native.Mathlib.Omega.{arith}
 use native.Mathlib.Decide.{decLt, ℕ-discrete}
-use native.Mathlib.Nat.{suc-mul, zero-mul, pow-suc}
-use lib.ListN.{length, getD, length-append, List·getD-append, List·getD-eq-default}
+use native.Mathlib.Nat.{pow-suc}
+use lib.ListN.{length, getD, List·getD-append, List·getD-eq-default}
 use lib.Seq.{getD-append-add}
-use lib.Arith.{digits-lt}
+use Rattle.laws.specs.Tabulate.{joined}
 use Rattle.laws.proofs.Tabulates.{length-tabulate, getD-tabulate, getD-tabulate-past}
-use Rattle.bits.specs.Bits.{Bytes, digit, bit}
+use Rattle.bits.specs.Bits.{Bytes, digit, bit, digits, numberAt, packed}
 use Rattle.bits.proofs.Digits.{digit-lt, digit-zero, digit-high}
 use Rattle.bits.proofs.Fields.{bit-past, bit-byte}
-use Rattle.tables.specs.Generated.{digits, joined, numberAt, packed}
 
 -- each element is 0 or 1
 pub record Bits (xs : List ℕ) : Type 0 where
   pub bound : (i : ℕ) → getD xs i 0 < 2
-
--- ---- one list behind the other
-
--- what stands behind the first m
-pub getD-behind : {A : Type 0} (xs ys : List A) (m i : ℕ) (d : A) → length xs ≡ m → getD (xs ++ ys) (m + i) d ≡ getD ys i d
-getD-behind xs ys m i d e = rw (← e) (getD-append-add xs ys i d)
 
 pub append-bits : (xs ys : List ℕ) → Bits xs → Bits ys → Bits (xs ++ ys)
 append-bits xs ys X Y = record {
@@ -34,27 +27,6 @@ append-bits xs ys X Y = record {
         rw (← k) (omega (arith, getD-append-add xs ys (i - length xs) 0, Y .bound (i - length xs)))
   ];
 }
-
--- lists of one length m
-module _ (m : ℕ) (f : ℕ → List ℕ) where
-  pub length-joined : (k : ℕ) → ((i : ℕ) → i < k → length (f i) ≡ m) → length (joined k f) ≡ k * m
-  unfolding joined
-  length-joined zero h = sym (zero-mul m)
-  length-joined (suc k) h =
-      rw length-append (omega (arith, length-joined k (λ i l. h i (omega arith)), h k (omega arith), suc-mul k m))
-
-  pub getD-joined : (k : ℕ) → ((i : ℕ) → i < k → length (f i) ≡ m) → (t j : ℕ) → t < k → j < m
-      → getD (joined k f) (t * m + j) 0 ≡ getD (f t) j 0
-  unfolding joined
-  getD-joined zero h t j l q = absurd (omega arith)
-  getD-joined (suc k) h t j l q =
-      let long : length (joined k f) ≡ k * m = length-joined k (λ i g. h i (omega arith)) in
-      elim (ℕ-discrete t k) [
-        | yes e ↦ rw e (getD-behind (joined k f) (f k) (k * m) j 0 long)
-        | no ne ↦
-            List·getD-append (joined k f) (f k) 0 (t * m + j) (rw long (digits-lt {q = t} {m = k} (omega arith) q))
-            ∙ getD-joined k (λ i g. h i (omega arith)) t j (omega arith) q
-      ]
 
 pub joined-bits : (k : ℕ) (f : ℕ → List ℕ) → ((i : ℕ) → i < k → Bits (f i)) → Bits (joined k f)
 unfolding joined

@@ -10,8 +10,8 @@ pub record Open (writer : Writer) : Type 0 where
   pub small : writer .window < 2 ^ writer .held
 
 -- The bit that comes next.
-abbrev pub placeOf : Writer → ℕ
-placeOf writer = 8 * writer .first + writer .held
+abbrev pub positionOf : Writer → ℕ
+positionOf writer = 8 * writer .first + writer .held
 
 -- The bytes with the held bits put.
 abbrev pub wholeOf : List ℕ → Writer → List ℕ

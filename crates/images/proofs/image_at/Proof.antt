@@ -2,8 +2,8 @@
 use mathlib.Core.Path.{refl}
 use native.Mathlib.Omega.{arith}
 use borrow.Author.Needs.{needs}
-use Rattle.generator.proofs.scheduling.image.Statement.{statement}
-use Rattle.generator.proofs.scheduling.image.Tie as tie
+use Rattle.images.proofs.image_at.Statement.{statement}
+use Rattle.images.proofs.image_at.Tie as tie
 
 mul-result : tie.Need-mul-result
 mul-result c = search needs
@@ -17,5 +17,5 @@ cast-result c = omega (arith, c .shared-slice-known .given (c .before .args .i))
 returns : tie.Need-returns
 returns c = (refl, omega (arith, c .shared-slice-known .given (c .before .args .i)))
 
-pub image-spec : {M : Type 1} → statement M
-image-spec = tie.close (tie.spec mul-result shared-slice-read-result cast-result returns)
+pub image-at-spec : {M : Type 1} → statement M
+image-at-spec = tie.close (tie.spec mul-result shared-slice-read-result cast-result returns)

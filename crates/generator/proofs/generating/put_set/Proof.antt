@@ -1,0 +1,294 @@
+-- `generating::put_set` meets its contract: before line t the bits up to it, those that the writer holds among them, are those of the set for
+-- the read lines so far, and the state of the schedule is that after t lines. The arrays that a line is planned in stay as long as they
+-- are, and straight beside the banks.
+use Prim.Native.Nat.{ℕ, _+_, _*_, _-_, _^_, _<_, _≤_}
+use mathlib.Core.Path.{_≡_, refl, sym, ap, _∙_}
+use mathlib.Core.List.{List}
+use native.Mathlib.Omega.{arith}
+use borrow.Author.Needs.{needs}
+use lib.ListN.{length, replicate, getD-replicate}
+use Rattle.limits.specs.Limits.{mostWidth, mostSwitches}
+use Rattle.images.specs.Images.{orderOf}
+use Rattle.bits.specs.Bits.{Bytes}
+use Rattle.bits.specs.inner.Writing.{Open, positionOf, wholeOf}
+use Rattle.tables.specs.Header.{headerOf, headerBits}
+use Rattle.tables.specs.Terms.{cycles, fileLength}
+use Rattle.tables.specs.Format.{lineAt}
+use Rattle.tables.specs.Generated.{setBits}
+use Rattle.tables.specs.inner.Buffers.{Written}
+use Rattle.tables.proofs.Dims.{cycles-few, lineAt-zero, lineAt-suc}
+use Rattle.packing.specs.Packing.{putLine}
+use Rattle.packing.specs.inner.Plans.{Blank}
+use Rattle.packing.proofs.Plans.{blank-numbered}
+use Rattle.matching.specs.Matching.{unowned}
+use Rattle.generator.specs.inner.Schedule.{Scheduled, Due, Took}
+use Rattle.generator.proofs.Drawings.{scheduled-start}
+use Rattle.generator.proofs.Making.{making-more, plan-ready, held-long, lines-room, set-begun, set-made}
+use Rattle.generator.proofs.generating.put_set.Statement.{statement}
+use Rattle.generator.proofs.generating.put_set.Tie as tie
+
+abbrev Inv-loop : tie.InvT-loop
+Inv-loop images next heads₀ edges₀ shape file₀ owner₀ words₀ reads₀ forward₀ back₀ writes₀ switches₀ writer₀ t₀ heads edges file owner words reads forward back writes switches writer t =
+    (t ≤ shape .cycles)
+    × ((length words ≡ mostWidth) × Blank (shape .width) reads forward back writes × (length switches ≡ mostSwitches))
+    × (Open writer × (positionOf writer ≡ lineAt (shape .words) (shape .width) t))
+    × ((lines : ℕ → ℕ → ℕ) × Scheduled (shape .words) (shape .width) (orderOf (shape .words) images) lines t heads edges owner
+    × Written (setBits (shape .words) (shape .width) (orderOf (shape .words) images) lines) (wholeOf file₀ writer₀) (wholeOf file writer)
+    (lineAt (shape .words) (shape .width) t))
+
+abbrev μ-loop : tie.MeasureT-loop
+μ-loop images next heads₀ edges₀ shape file₀ owner₀ words₀ reads₀ forward₀ back₀ writes₀ switches₀ writer₀ t₀ heads edges file owner words reads forward back writes switches writer t =
+    shape .cycles - t
+
+-- ---- the places
+
+abbrev Start : Type 0
+Start = tie.Start Inv-loop μ-loop
+
+abbrev n : Start → ℕ
+n s = s .args .shape .words
+
+abbrev w : Start → ℕ
+w s = s .args .shape .width
+
+abbrev p : Start → ℕ → ℕ
+p s = orderOf (n s) (s .args .images .now)
+
+abbrev entry : tie.After-begin Inv-loop μ-loop → Start
+entry c = c .before .before .before .before .before .before .before
+
+abbrev begun-loop : tie.At-loop Inv-loop μ-loop → tie.After-begin Inv-loop μ-loop
+begun-loop c = c .before .before .before
+
+abbrev start : tie.At-loop Inv-loop μ-loop → Start
+start c = entry (begun-loop c)
+
+abbrev loop-words : tie.After-words Inv-loop μ-loop → tie.At-loop Inv-loop μ-loop
+loop-words c = c .before .before .before .before .before .before
+
+abbrev loop-taken : tie.After-take-line Inv-loop μ-loop → tie.At-loop Inv-loop μ-loop
+loop-taken c = loop-words (c .before)
+
+abbrev taken-writes : tie.After-writes Inv-loop μ-loop → tie.After-take-line Inv-loop μ-loop
+taken-writes c = c .before .before .before .before .before
+
+abbrev taken-plan : tie.After-plan-line Inv-loop μ-loop → tie.After-take-line Inv-loop μ-loop
+taken-plan c = taken-writes (c .before)
+
+abbrev plan-switches : tie.After-switches Inv-loop μ-loop → tie.After-plan-line Inv-loop μ-loop
+plan-switches c = c .before .before .before .before .before .before
+
+abbrev loop-switches : tie.After-switches Inv-loop μ-loop → tie.At-loop Inv-loop μ-loop
+loop-switches c = loop-taken (taken-plan (plan-switches c))
+
+abbrev put-last : tie.After-switches2 Inv-loop μ-loop → tie.After-put-line Inv-loop μ-loop
+put-last c = c .before .before .before
+
+abbrev loop-last : tie.After-switches2 Inv-loop μ-loop → tie.At-loop Inv-loop μ-loop
+loop-last c = loop-switches (put-last c .before)
+
+abbrev loop-end : tie.After-end-arg Inv-loop μ-loop → tie.At-loop Inv-loop μ-loop
+loop-end c = c .before .before .before
+
+-- ---- the facts
+
+lent-bytes : (c : tie.After-slice-known Inv-loop μ-loop) → Bytes (c .before .before .before .args .file .now)
+lent-bytes c = record { byte = λ i. c .slice-known .given i .fits }
+
+-- the header, once the set is begun
+headed : (c : tie.After-begin Inv-loop μ-loop)
+    → let s = entry c in
+    Written (headerOf (n s) (w s)) (s .args .file .now) (wholeOf (c .begin .last .0) (c .begin .result)) (headerBits (n s))
+headed c = c .begin .ensures .2
+
+-- the file is as long as it was lent
+file-long : (c : tie.At-loop Inv-loop μ-loop) → length (c .loop .file) ≡ length (start c .args .file .now)
+file-long c = held-long (c .loop .file) (c .loop .writer) (c .loop .inv .3 .2) ∙ headed (begun-loop c) .long
+
+-- every line starts, and the last one ends, in the lent file
+room : (s : Start) (t : ℕ) → t ≤ cycles (n s) (w s) → lineAt (n s) (w s) t ≤ 8 * length (s .args .file .now)
+room s t l = omega (arith, lines-room (n s) (w s) t l, s .pre .1 .0 .2)
+
+numbered-requires : tie.Need-numbered-requires Inv-loop μ-loop
+numbered-requires c κs = search needs
+
+numbered-requires-2 : tie.Need-numbered-requires-2 Inv-loop μ-loop
+numbered-requires-2 c κs = search needs
+
+begin-requires : tie.Need-begin-requires Inv-loop μ-loop
+begin-requires c κs = let s = c .before .before .before .before .before .before in (s .pre .0 .0, s .pre .1 .0 .2)
+
+loop-holds : tie.Need-loop-holds Inv-loop μ-loop
+loop-holds c =
+    let d = c .before .before in
+    let s = entry d in
+    let none : ℕ → ℕ → ℕ = λ _ _. 0 in
+    let start-owner : List ℕ = replicate mostWidth unowned in (
+      omega arith,
+      (refl, blank-numbered (w s) (d .before .before .before .numbered .ensures) (d .before .before .numbered2 .ensures), refl),
+      (d .begin .ensures .0, d .begin .ensures .1 ∙ sym (lineAt-zero (n s) (w s))),
+      (
+        none,
+        scheduled-start start-owner none (s .pre .0 .0 .dims) (s .pre .0 .1) (s .pre .1 .1 .0 .1) (s .pre .1 .1 .1) refl
+            (λ k l. getD-replicate {A = ℕ} mostWidth k unowned 0 (omega (arith, s .pre .0 .0 .dims .narrow))),
+        set-begun (n s) (w s) (p s) none (headed d),
+      ),
+    )
+
+-- the next line can be taken
+due : (c : tie.After-words Inv-loop μ-loop)
+    → let a = loop-words c in
+    let s = start a in
+    Due (n s) (w s) (p s) (a .loop .inv .3 .0) (a .loop .t) (s .args .next .now) (a .loop .heads) (a .loop .edges) (a .loop .owner)
+due c =
+    let a = loop-words c in
+    let s = start a in
+    record {
+      dims = s .pre .0 .0 .dims;
+      permutes = s .pre .0 .1;
+      chained = s .pre .1 .1 .0 .1 .chained;
+      lent = s .pre .1 .0 .1;
+      more = omega (arith, c .before .before .before .before .if1 .taken, s .pre .0 .0 .cycles);
+      scheduled = a .loop .inv .3 .1;
+    }
+
+take-line-requires : tie.Need-take-line-requires Inv-loop μ-loop
+take-line-requires c κs = ((_, _, _, _, due c), loop-words c .loop .inv .1 .0)
+
+-- the line that was taken
+took : (c : tie.After-take-line Inv-loop μ-loop)
+    → let a = loop-taken c in
+    let s = start a in
+    Took (n s) (w s) (p s) (a .loop .inv .3 .0) (a .loop .t) (c .take-line .last .1 .1 .1 .1 .0) (c .take-line .last .1 .0)
+    (c .take-line .last .1 .1 .0) (c .take-line .last .1 .1 .1 .0)
+took c =
+    let a = loop-taken c in
+    let s = start a in
+    c .take-line .ensures (n s) (p s) (a .loop .inv .3 .0) (a .loop .t) (due (c .before))
+
+plan-line-requires : tie.Need-plan-line-requires Inv-loop μ-loop
+plan-line-requires c κs =
+    let a = loop-taken (taken-writes c) in
+    let s = start a in
+    let T = took (taken-writes c) in (
+      (s .pre .0 .0 .dims .wide, s .pre .0 .0 .dims .narrow, T .long, T .banked .injective),
+      ((λ k l. (omega (arith, T .inside k l, s .pre .1 .0 .0), omega (arith, T .inside k l, s .pre .0 .0 .dims .few))), a .loop .inv .1 .1),
+    )
+
+slice-aggregate-put-line : tie.Need-slice-aggregate-put-line Inv-loop μ-loop
+slice-aggregate-put-line c = search needs
+
+slice-aggregate-put-line-2 : tie.Need-slice-aggregate-put-line-2 Inv-loop μ-loop
+slice-aggregate-put-line-2 c = search needs
+
+slice-aggregate-put-line-3 : tie.Need-slice-aggregate-put-line-3 Inv-loop μ-loop
+slice-aggregate-put-line-3 c = search needs
+
+slice-aggregate-put-line-4 : tie.Need-slice-aggregate-put-line-4 Inv-loop μ-loop
+slice-aggregate-put-line-4 c = search needs
+
+slice-aggregate-put-line-5 : tie.Need-slice-aggregate-put-line-5 Inv-loop μ-loop
+slice-aggregate-put-line-5 c = sym (loop-switches c .loop .inv .1 .2)
+
+put-line-requires : tie.Need-put-line-requires Inv-loop μ-loop
+put-line-requires c κs =
+    let q = plan-switches c in
+    let d = taken-plan q in
+    let a = loop-taken d in
+    let s = start a in
+    let t = a .loop .t in (
+      (s .pre .0 .0, plan-ready (s .pre .0 .0 .dims) (s .pre .0 .1) (took d) (q .plan-line .ensures)),
+      (
+        a .loop .inv .2 .0,
+        omega (
+          arith,
+          a .loop .inv .2 .1,
+          s .pre .0 .0 .stride,
+          lineAt-suc (n s) (w s) t,
+          room s (t + 1) (omega (arith, due (d .before) .more)),
+          file-long a,
+        ),
+        a .loop .inv .1 .2,
+      ),
+    )
+
+add-t : tie.Need-add-t Inv-loop μ-loop
+add-t c =
+    let a = loop-last c in
+    let fits : a .loop .t + 1 < 2 ^ 64 = omega (arith, a .loop .inv .0, start a .pre .0 .0 .cycles, cycles-few (start a .pre .0 .0 .dims)) in
+    record { fits = fits }
+
+loop-less : tie.Need-loop-less Inv-loop μ-loop
+loop-less c = omega (arith, taken-plan (plan-switches (put-last c .before)) .before .before .before .before .before .if1 .taken)
+
+loop-again : tie.Need-loop-again Inv-loop μ-loop
+loop-again c =
+    let e = put-last c in
+    let q = plan-switches (e .before) in
+    let d = taken-plan q in
+    let a = loop-taken d in
+    let s = start a in
+    let T = took d in
+    let L = q .plan-line .ensures in
+    let put = e .put-line .ensures in
+    let whole : List ℕ = wholeOf (a .loop .file) (a .loop .writer) in
+    let placed = put .2 ∙ ap (λ (x : ℕ). putLine (n s) (w s) whole x (q .plan-line .last .1 .1 .1 .0) (q .plan-line .last .1 .1 .1 .1 .0)
+    (q .plan-line .last .1 .1 .1 .1 .1 .1 .0)) (a .loop .inv .2 .1) in
+    let fits : fileLength (n s) (w s) ≤ length (wholeOf (begun-loop a .begin .last .0) (begun-loop a .begin .result)) =
+    omega (arith, s .pre .1 .0 .2, headed (begun-loop a) .long) in (
+      omega (arith, d .before .before .before .before .before .if1 .taken),
+      (T .long, L .blank, put .3),
+      (put .0, omega (arith, put .1, a .loop .inv .2 .1, s .pre .0 .0 .stride, lineAt-suc (n s) (w s) (a .loop .t))),
+      (_, T .scheduled, rw placed (making-more (s .pre .0 .0 .dims) (s .pre .0 .1) T L (due (d .before) .more) fits (a .loop .inv .3 .2))),
+    )
+
+-- all lines are put
+all-put : (c : tie.After-end-arg Inv-loop μ-loop) → let s = start (loop-end c) in loop-end c .loop .t ≡ cycles (n s) (w s)
+all-put c =
+    let a = loop-end c in
+    omega (arith, start a .pre .0 .0 .cycles, c .before .if1 .left, a .loop .inv .0)
+
+end-requires : tie.Need-end-requires Inv-loop μ-loop
+end-requires c κs =
+    let a = loop-end c in
+    let s = start a in (
+      (s .pre .0 .0, omega (arith, s .pre .1 .0 .2, file-long a)),
+      (a .loop .inv .2 .0, a .loop .inv .2 .1 ∙ ap (lineAt (n s) (w s)) (all-put c)),
+    )
+
+same-length : tie.Need-same-length Inv-loop μ-loop
+same-length c = c .before .before .end .kept .0 ∙ file-long (loop-end (c .before .before .before))
+
+returns : tie.Need-returns Inv-loop μ-loop
+returns c =
+    let e = c .before .before in
+    let a = loop-end (e .before) in
+    let s = start a in
+    rw (e .end .ensures)
+    (set-made (a .loop .t) (all-put (e .before)) (s .pre .0 .0 .dims) (s .pre .0 .1) (lent-bytes (begun-loop a .before .before .before .before))
+    (s .pre .1 .0 .2) (headed (begun-loop a)) (a .loop .inv .3 .1) (a .loop .inv .3 .2))
+
+pub put-set-spec : {M : Type 1} → statement M
+put-set-spec =
+    tie.close
+    (tie.spec
+    Inv-loop
+    μ-loop
+    numbered-requires
+    numbered-requires-2
+    begin-requires
+    loop-holds
+    take-line-requires
+    plan-line-requires
+    slice-aggregate-put-line
+    slice-aggregate-put-line-2
+    slice-aggregate-put-line-3
+    slice-aggregate-put-line-4
+    slice-aggregate-put-line-5
+    put-line-requires
+    add-t
+    loop-less
+    loop-again
+    end-requires
+    same-length
+    returns)

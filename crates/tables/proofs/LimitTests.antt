@@ -1,0 +1,49 @@
+-- The tests of n and w, in the one law that gives their cases: both of two such tests end at the same refusal, or n and w keep the limits and
+-- both go on. All else that is said of them follows from it.
+use Prim.Native.Nat.{ℕ, _%_}
+use mathlib.Core.Path.{_≡_, refl, sym}
+use native.Mathlib.Omega.{arith}
+use Rattle.limits.specs.Limits.{mostWords, mostWidth}
+use Rattle.laws.proofs.Choices.{ifLt-both, ifEq-both, ifLt-no, ifEq-yes}
+use Rattle.refusal.specs.declared.Refusal.{Refusal}
+use Rattle.refusal.specs.declared.Refusal.the-variants.{FrameSize, Width, Uneven}
+use Rattle.tables.specs.Terms.{Dims, limitTest, limitsOf}
+use Rattle.tables.specs.declared.Limits.{Limits}
+use Rattle.tables.specs.declared.Limits.the-variants.{Kept, Refused}
+
+pub limit-both : {X Y : Type 0} (P : X → Y → Type 0) (n w : ℕ) (refused : Refusal → X) (next : X) (refused′ : Refusal → Y) (next′ : Y)
+    → ((r : Refusal) → P (refused r) (refused′ r)) → (Dims n w → P next next′)
+    → P (limitTest n w refused next) (limitTest n w refused′ next′)
+unfolding limitTest
+limit-both P n w refused next refused′ next′ stops goes =
+    ifLt-both P n 1 _ _ _ _ (λ _. stops FrameSize) λ some.
+    ifLt-both P mostWords n _ _ _ _ (λ _. stops FrameSize) λ few.
+    ifLt-both P w 1 _ _ _ _ (λ _. stops Width) λ wide.
+    ifLt-both P mostWidth w _ _ _ _ (λ _. stops Width) λ narrow.
+    ifEq-both P (n % w) 0 _ _ _ _
+    (λ even. goes (record { some = some; few = few; wide = wide; narrow = narrow; even = even })) (λ _. stops Uneven)
+
+pub limit-cases : {X : Type 0} (P : X → Type 0) (n w : ℕ) (refused : Refusal → X) (next : X) → ((r : Refusal) → P (refused r))
+    → (Dims n w → P next) → P (limitTest n w refused next)
+limit-cases P n w refused next = limit-both (λ x _. P x) n w refused next refused next
+
+-- n and w that keep the limits pass
+pub limit-passes : {X : Type 0} {n w : ℕ} (refused : Refusal → X) (next : X) → Dims n w → limitTest n w refused next ≡ next
+unfolding limitTest
+limit-passes {n = n} {w} refused next D = sym (
+    ifLt-no n 1 _ _ _ (D .some) (ifLt-no mostWords n _ _ _ (D .few) (ifLt-no w 1 _ _ _ (D .wide) (ifLt-no mostWidth w _ _ _ (D .narrow)
+    (ifEq-yes (n % w) 0 _ _ _ (D .even) refl)))))
+
+-- what the code's answer says
+kept-refused : {r : Refusal} → Refused r ≡ Kept → ⊥
+kept-refused e = let z : _≡_ {A = ℕ} 0 1 = cc in omega arith
+
+pub limits-kept : (n w : ℕ) → limitsOf n w ≡ Kept → Dims n w
+unfolding limitsOf
+limits-kept n w = limit-cases (λ (x : Limits). x ≡ Kept → Dims n w) n w Refused Kept (λ r e. absurd (kept-refused e)) (λ D _. D)
+
+pub limits-refused : {X : Type 0} (n w : ℕ) (r : Refusal) (refused : Refusal → X) (next : X) → limitsOf n w ≡ Refused r
+    → limitTest n w refused next ≡ refused r
+unfolding limitsOf
+limits-refused {X} n w r refused next = limit-both (λ (x : Limits) (y : X). x ≡ Refused r → y ≡ refused r) n w Refused Kept refused next
+    (λ x e. let z : x ≡ r = cc in rw z refl) (λ _ e. absurd (kept-refused (sym e)))
