@@ -8,7 +8,7 @@ use Rattle.laws.specs.Choice.{ifLt, ifEq}
 use Rattle.laws.specs.Permutation.{inverse}
 use Rattle.refusal.specs.Refusals.{numberOf}
 use Rattle.images.specs.Images.{orderOf}
-use Rattle.tables.specs.Reading.{Outcome, outcome, readOf}
+use Rattle.tables.specs.Reading.{ReadOutcome, readOutcome, readOf}
 use Rattle.laws.specs.Tabulate.{joined}
 use Rattle.tables.specs.declared.Reading.the-variants.{Read, Refused}
 
@@ -50,9 +50,9 @@ unfoldable pub refusalText : ℕ → List ℕ
 refusalText number = refusedText ++ (decimal number ++ (10 ∷ []))
 
 -- what reading says, in words
-unfoldable pub textOf : Outcome → List ℕ
-textOf (outcome (Read n w) images) = setText n w images
-textOf (outcome (Refused r) images) = refusalText (numberOf r)
+unfoldable pub textOf : ReadOutcome → List ℕ
+textOf (readOutcome (Read contents) images) = setText (contents .words) (contents .width) images
+textOf (readOutcome (Refused r) images) = refusalText (numberOf r)
 
 -- the description of a file, read with memory enough
 unfoldable pub descriptionOf : List ℕ → List ℕ

@@ -129,6 +129,6 @@ pub fn describe(file: &[u8], text: &mut [u8]) -> usize
     let scratch = [0u16; 2 * MOST_WORDS];
     match tables::read(file, &mut images, &scratch) {
         Reading::Refused(refusal) => put_refusal(text, refusal.number()),
-        Reading::Read(n, w) => put_set(text, &images, n, w),
+        Reading::Read(contents) => put_set(text, &images, contents.words, contents.width),
     }
 }

@@ -23,10 +23,10 @@ use Rattle.tables.specs.Terms.{Dims, cycles, fileLength}
 use Rattle.tables.specs.Header.{headerWords, headerWidth}
 use Rattle.tables.specs.Format.{shapeOf, openOf}
 use Rattle.tables.specs.Datapath.{readStrays, carryStrays, writeStrays, strays}
-use Rattle.tables.specs.Reading.{readOf, outcome as read}
+use Rattle.tables.specs.Reading.{readOf, readAs, readOutcome}
 use Rattle.tables.specs.Generated.{setOf as generatedSet}
 use Rattle.tables.specs.declared.Opened.the-variants.{Set}
-use Rattle.tables.specs.declared.Reading.the-variants.{Read, Refused as Unread}
+use Rattle.tables.specs.declared.Reading.the-variants.{Refused as Unread}
 use Rattle.tables.proofs.Form.{open-cases}
 use Rattle.laws.proofs.Joins.{getD-behind}
 use Rattle.tables.proofs.SetBits.{length-setOf}
@@ -79,8 +79,8 @@ set-lends width images values =
 
 -- reading a set: scratch is a shared slice
 pub read-lends : (file images scratch : List ℕ)
-    → ((r : Refusal) × (readOf file images scratch ≡ read (Unread r) images))
-    ⊎ ((n : ℕ) × (w : ℕ) × (after : List ℕ) × (readOf file images scratch ≡ read (Read n w) after) × Only n images after)
+    → ((r : Refusal) × (readOf file images scratch ≡ readOutcome (Unread r) images))
+    ⊎ ((n : ℕ) × (w : ℕ) × (after : List ℕ) × (readOf file images scratch ≡ readAs n w file after) × Only n images after)
 read-lends file images scratch =
     ⊎-elim (λ r. inr (
       r .0,

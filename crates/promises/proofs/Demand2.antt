@@ -12,10 +12,10 @@ use Rattle.refusal.specs.declared.Refusal.{Refusal}
 use Rattle.tables.specs.Terms.{Dims}
 use Rattle.tables.specs.Format.{shapeOf, openOf}
 use Rattle.tables.specs.Datapath.{Performs}
-use Rattle.tables.specs.Reading.{outcome, readOf}
+use Rattle.tables.specs.Reading.{readOutcome, readAs, readOf}
 use Rattle.tables.specs.Generated.{Schedule, setOf}
 use Rattle.tables.specs.declared.Opened.the-variants.{Set}
-use Rattle.tables.specs.declared.Reading.the-variants.{Read, Refused}
+use Rattle.tables.specs.declared.Reading.the-variants.{Refused}
 use Rattle.tables.proofs.Performs.{performs-unique}
 use Rattle.tables.proofs.Exact.{Answered, read-cases, read-exact, read-refuses, generated-reads}
 
@@ -30,17 +30,17 @@ Lent images scratch n = (n ≤ length images) × (2 * n ≤ length scratch)
 pub record Reading : Type 0 where
   -- accepted with p written exactly where the datapath performs p
   pub exact : (file images scratch : List ℕ) {n w : ℕ} (p : ℕ → ℕ) → Formed file n w → Lent images scratch n
-      → Performs n w file p ↔ (readOf file images scratch ≡ outcome (Read n w) (overwrite n p images))
+      → Performs n w file p ↔ (readOf file images scratch ≡ readAs n w file (overwrite n p images))
   -- the datapath performs one permutation at most
   pub only : {n w : ℕ} {file : List ℕ} {p q : ℕ → ℕ} → Performs n w file p → Performs n w file q → (i : ℕ) → i < n → p i ≡ q i
   -- where it performs none, the file is refused and the images stay
   pub refused : (file images scratch : List ℕ) {n w : ℕ} → Formed file n w → ((p : ℕ → ℕ) → Performs n w file p → ⊥)
-      → (r : Refusal) × (readOf file images scratch ≡ outcome (Refused r) images)
+      → (r : Refusal) × (readOf file images scratch ≡ readOutcome (Refused r) images)
   -- every call ends so: an accepted file has the form, its memory was lent, and what was written is performed; or it is refused
   pub always : (file images scratch : List ℕ) → Answered file images scratch
   -- a set made from a permutation, whatever its read lines, is accepted and reads as the permutation
   pub generated : {n w : ℕ} {p : ℕ → ℕ} {reads : ℕ → ℕ → ℕ} (images scratch : List ℕ) → Dims n w → Permutes n p → Schedule n w p reads
-      → Lent images scratch n → readOf (setOf n w p reads) images scratch ≡ outcome (Read n w) (overwrite n p images)
+      → Lent images scratch n → readOf (setOf n w p reads) images scratch ≡ readAs n w (setOf n w p reads) (overwrite n p images)
 
 pub demand-2 : Reading
 demand-2 = record {

@@ -9,8 +9,7 @@ use Rattle.laws.specs.Tabulate.{overwrite}
 use Rattle.images.specs.Images.{orderOf}
 use Rattle.tables.specs.Terms.{fileLength}
 use Rattle.tables.specs.Generated.{setOf}
-use Rattle.tables.specs.Reading.{outcome, readOf}
-use Rattle.tables.specs.declared.Reading.the-variants.{Read}
+use Rattle.tables.specs.Reading.{readAs, readOf}
 use Rattle.tables.proofs.SetBits.{length-setOf}
 use Rattle.tables.proofs.Exact.{read-performs, generated-reads}
 use Rattle.machine.specs.Devices.{Feed, run}
@@ -27,7 +26,7 @@ use Rattle.generator.specs.declared.Generation.the-variants.{Written}
 
 -- every set that reads as some permutation, lent exactly: over any list of steps, from a fresh clock and two memories of 2n words or more
 -- that hold anything, the machine is the plain rule for that permutation
-pub sets-stream : (file images scratch images′ : List ℕ) {n w : ℕ} → readOf file images scratch ≡ outcome (Read n w) images′
+pub sets-stream : (file images scratch images′ : List ℕ) {n w : ℕ} → readOf file images scratch ≡ readAs n w file images′
     → (first second : List ℕ) → 2 * n ≤ length first → 2 * n ≤ length second → (steps : List Feed)
     → run (machine file) (record { clock = fresh; first = first; second = second }) steps ≡ run (plain n w (orderOf n images′)) empty steps
 sets-stream file images scratch images′ {n} h =
@@ -41,7 +40,7 @@ pub record Good (n w : ℕ) (images : List ℕ) (answer : Generation) (made : Li
   pub long : length made ≡ fileLength n w
   -- it reads as the permutation
   pub reads : (out scratch : List ℕ) → n ≤ length out → 2 * n ≤ length scratch
-      → readOf made out scratch ≡ outcome (Read n w) (overwrite n (orderOf n images) out)
+      → readOf made out scratch ≡ readAs n w made (overwrite n (orderOf n images) out)
   -- and over any list of steps, from a fresh clock and two memories of 2n words or more that hold anything, the machine is the plain rule
   pub streams : (first second : List ℕ) → 2 * n ≤ length first → 2 * n ≤ length second → (steps : List Feed)
       → run (machine made) (record { clock = fresh; first = first; second = second }) steps ≡ run (plain n w (orderOf n images)) empty steps
@@ -80,7 +79,7 @@ demand-3 n w images file scratch answer file′ scratch′ R G =
 
 -- The same of `lentMachine`, which is made of `lentStep`, which the contract of `machine::step_lent` cites: the clock stays lent, and each step
 -- alters it where it stands.
-pub sets-stream-lent : (file images scratch images′ : List ℕ) {n w : ℕ} → readOf file images scratch ≡ outcome (Read n w) images′
+pub sets-stream-lent : (file images scratch images′ : List ℕ) {n w : ℕ} → readOf file images scratch ≡ readAs n w file images′
     → (first second : List ℕ) → 2 * n ≤ length first → 2 * n ≤ length second → (steps : List Feed)
     → run (lentMachine file) (record { clock = fresh; first = first; second = second }) steps ≡ run (plain n w (orderOf n images′)) empty steps
 sets-stream-lent file images scratch images′ h first second long long′ steps =

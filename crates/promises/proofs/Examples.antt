@@ -21,7 +21,7 @@ use Rattle.tables.specs.Header.{headerOf, headerBits, headerWords, headerWidth,
 use Rattle.tables.specs.Format.{lineAt, readAddress, switchBit, writeAddress, filling, shapeOf, headerTest, lengthTest, openOf}
 use Rattle.tables.specs.Datapath.{carriedTo, target, readStrays, carryStrays, writeStrays}
 use Rattle.tables.specs.Generated.{wordOf, portOf, writeOf, lineOf, setBits, setOf}
-use Rattle.tables.specs.Reading.{Outcome, outcome, readFault, writeFault, scanLines, imageOf, readLines, readOpened, readOf}
+use Rattle.tables.specs.Reading.{ReadOutcome, readOutcome, readFault, writeFault, scanLines, imageOf, readLines, readOpened, readOf}
 use Rattle.tables.specs.declared.Reading.the-variants.{Read, Refused}
 use Rattle.machine.specs.Devices.{Feed, feed, Seen, seen, filling as fillingSaid, wrote, refused, run}
 use Rattle.machine.specs.Step.{spot, fresh, nextClock, leaving, moving, entering, accepted as stepAccepted, clockTest, lineTest, stepLine, stepOpened, stepOf}
@@ -50,9 +50,9 @@ pub data Reply : Type 0 where
   shows : List Seen → Reply
   turnedDown : ℕ → ℕ → Reply
 
-pub told : Outcome → Reply
-told (outcome (Read n w) images) = accepted n w images
-told (outcome (Refused r) images) = turnedDown (numberOf r) (placeOf r)
+pub told : ReadOutcome → Reply
+told (readOutcome (Read contents) images) = accepted (contents .words) (contents .width) images
+told (readOutcome (Refused r) images) = turnedDown (numberOf r) (placeOf r)
 
 pub checked : Checked → Reply
 checked Permutation = made

@@ -14,8 +14,8 @@ use Rattle.laws.proofs.Tabulates.{getD-overwrite}
 use Rattle.refusal.specs.declared.Refusal.{Refusal}
 use Rattle.images.specs.Images.{orderOf}
 use Rattle.tables.specs.Terms.{cycles, fileLength}
-use Rattle.tables.specs.Reading.{outcome, readOf}
-use Rattle.tables.specs.declared.Reading.the-variants.{Read, Refused as Unread}
+use Rattle.tables.specs.Reading.{readOutcome, readAs, readOf}
+use Rattle.tables.specs.declared.Reading.the-variants.{Refused as Unread}
 use Rattle.machine.specs.Devices.{Feed, feed, Seen, seen, filling, wrote, After, run}
 use Rattle.machine.specs.Plain.{Row, empty, given, took, plain}
 use Rattle.generator.specs.Generating.{Generates}
@@ -38,20 +38,20 @@ module _ {n w : ℕ} {images file scratch : List ℕ} {answer : Generation} {fil
       cc
 
   module _ (out memory : List ℕ) (l : n ≤ length out) (m : 2 * n ≤ length memory) where
-    reads : readOf (take (fileLength n w) file′) out memory ≡ outcome (Read n w) (overwrite n (orderOf n images) out)
+    reads : readOf (take (fileLength n w) file′) out memory ≡ readAs n w (take (fileLength n w) file′) (overwrite n (orderOf n images) out)
     reads = demand-3 n w images file scratch answer file′ scratch′ R G .reads out memory l m
 
     -- a reader that turns down every file
-    pub set-not-refused : (r : Refusal) (out′ : List ℕ) → readOf (take (fileLength n w) file′) out memory ≡ outcome (Unread r) out′ → ⊥
+    pub set-not-refused : (r : Refusal) (out′ : List ℕ) → readOf (take (fileLength n w) file′) out memory ≡ readOutcome (Unread r) out′ → ⊥
     set-not-refused r out′ e =
-        let q : outcome (Read n w) (overwrite n (orderOf n images) out) ≡ outcome (Unread r) out′ = sym reads ∙ e in
+        let q : readAs n w (take (fileLength n w) file′) (overwrite n (orderOf n images) out) ≡ readOutcome (Unread r) out′ = sym reads ∙ e in
         let z : _≡_ {A = ℕ} 0 1 = cc in omega arith
 
     -- a generator that gives the straight-through set for every permutation: only the straight order has it
-    pub straight-alone : readOf (take (fileLength n w) file′) out memory ≡ outcome (Read n w) (overwrite n (λ i. i) out)
+    pub straight-alone : readOf (take (fileLength n w) file′) out memory ≡ readAs n w (take (fileLength n w) file′) (overwrite n (λ i. i) out)
         → (i : ℕ) → i < n → orderOf n images i ≡ i
     straight-alone e i b =
-        let q : outcome (Read n w) (overwrite n (orderOf n images) out) ≡ outcome (Read n w) (overwrite n (λ i. i) out) = sym reads ∙ e in
+        let q : readAs n w (take (fileLength n w) file′) (overwrite n (orderOf n images) out) ≡ readAs n w (take (fileLength n w) file′) (overwrite n (λ i. i) out) = sym reads ∙ e in
         let z : overwrite n (orderOf n images) out ≡ overwrite n (λ i. i) out = cc in
         sym (getD-overwrite n (orderOf n images) out i 0 b) ∙ ap (λ (xs : List ℕ). getD xs i 0) z ∙ getD-overwrite n (λ i. i) out i 0 b
 

@@ -39,7 +39,7 @@ lineAnswer (Unfollowed r) = refusalAnswer r
 
 -- reading: n and w
 unfoldable pub readingAnswer : Reading → ReadAnswer
-readingAnswer (Read n w) = record { number = 0; place = 0; words = n; width = w }
+readingAnswer (Read contents) = record { number = 0; place = 0; words = contents .words; width = contents .width }
 readingAnswer (Unread r) = record { number = numberOf r; place = placeOf r; words = 0; width = 0 }
 
 -- a step: `filling` is 0, that w words were written is 1

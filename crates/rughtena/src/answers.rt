@@ -68,11 +68,11 @@ pub fn of_reading(core: Reading) -> ReadAnswer
     ensures { λ r. ⌜ r ≡ readingAnswer core ⌝ }
 {
     match core {
-        Reading::Read(words, width) => ReadAnswer {
+        Reading::Read(contents) => ReadAnswer {
             number: 0,
             place: 0,
-            words,
-            width,
+            words: contents.words,
+            width: contents.width,
         },
         Reading::Refused(refusal) => ReadAnswer {
             number: refusal.number(),

@@ -3,7 +3,7 @@
 ghost use mathlib.Core.Path.{_≡_};
 ghost use Rattle.network.specs.Calls.{followOf, setOf, outcome as settingOutcome};
 ghost use Rattle.network.specs.declared.setting.Setting.{Setting};
-ghost use Rattle.tables.specs.Reading.{readOf, outcome as readingOutcome};
+ghost use Rattle.tables.specs.Reading.{readOf, readOutcome};
 ghost use Rattle.tables.specs.declared.Reading.{Reading};
 ghost use Rattle.generator.specs.Generating.{Generates};
 ghost use Rattle.generator.specs.declared.Generation.{Generation};
@@ -54,7 +54,7 @@ pub extern "C" fn rughtena_generate(
 // Reading a table set.
 #[no_mangle]
 pub extern "C" fn rughtena_read(file: &[u8], images: &mut [u16], scratch: &[u16]) -> ReadAnswer
-    ensures { λ r. ⌜ ((core : Reading) × (r ≡ readingAnswer core) × (readingOutcome core (now (images .exit)) ≡ readOf (now (file .entry)) (now (images .entry)) (now (scratch .entry)))) ⌝ }
+    ensures { λ r. ⌜ ((core : Reading) × (r ≡ readingAnswer core) × (readOutcome core (now (images .exit)) ≡ readOf (now (file .entry)) (now (images .entry)) (now (scratch .entry)))) ⌝ }
 {
     answers::of_reading(read(file, images, scratch))
 }

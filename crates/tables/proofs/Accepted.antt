@@ -19,7 +19,7 @@ use Rattle.refusal.specs.declared.Refusal.the-variants.{ReadAddress, SpareLine,
 use Rattle.tables.specs.Terms.{cycles}
 use Rattle.tables.specs.Format.{readAddress, writeAddress}
 use Rattle.tables.specs.Datapath.{carriedTo, carryStrays}
-use Rattle.tables.specs.Reading.{Outcome, readFault, writeFault, scanLines}
+use Rattle.tables.specs.Reading.{ReadOutcome, readFault, writeFault, scanLines}
 
 -- no address strays, no bank is read or written twice at one address, and no line is carried to w or above
 pub record Accepted (n w : ℕ) (file : List ℕ) : Type 0 where
@@ -160,7 +160,7 @@ module _ (n w : ℕ) (file : List ℕ) where
 
   -- ---- the scan
 
-  module _ (refused : Refusal → Outcome) (next : Outcome) where
+  module _ (refused : Refusal → ReadOutcome) (next : ReadOutcome) where
     -- no line is left
     pub scan-none : (t : ℕ) → scanLines n w file 0 t refused next ≡ next
     unfolding scanLines

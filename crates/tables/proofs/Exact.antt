@@ -18,10 +18,11 @@ use Rattle.tables.specs.Terms.{cycles}
 use Rattle.tables.specs.Header.{headerWords, headerWidth}
 use Rattle.tables.specs.Format.{shapeOf, openOf}
 use Rattle.tables.specs.Datapath.{Performs}
-use Rattle.tables.specs.Reading.{outcome, scanLines, imageOf, readLines, readOpened, readOf}
+use Rattle.tables.specs.Reading.{readOutcome, contentsOf, readAs, scanLines, imageOf, readLines, readOpened, readOf}
 use Rattle.tables.specs.Generated.{Schedule, setOf}
 use Rattle.tables.specs.declared.Opened.the-variants.{Set, Refused}
-use Rattle.tables.specs.declared.Reading.the-variants.{Read, Refused as Unread}
+use Rattle.tables.specs.declared.Contents.{Contents}
+use Rattle.tables.specs.declared.Reading.the-variants.{Refused as Unread}
 use Rattle.tables.proofs.Dims.{Dims}
 use Rattle.tables.proofs.Accepted.{Accepted, scan-cases, accepted-scan}
 use Rattle.tables.proofs.Performs.{accepted-performs, performs-accepted, performs-image, performs-ext}
@@ -31,7 +32,7 @@ use Rattle.tables.proofs.ReadsBack.{setOf-performs}
 module _ (file images scratch : List ℕ) where
   -- ---- from the tests of the form to the lines
 
-  pub read-unopened : (r : Refusal) → openOf file ≡ Refused r → readOf file images scratch ≡ outcome (Unread r) images
+  pub read-unopened : (r : Refusal) → openOf file ≡ Refused r → readOf file images scratch ≡ readOutcome (Unread r) images
   unfolding readOf readOpened
   read-unopened r h = rw h refl
 
@@ -41,14 +42,14 @@ module _ (file images scratch : List ℕ) where
 
   -- memory is short, or the lines are scanned
   read-room : (n w : ℕ) → openOf file ≡ Set (shapeOf n w)
-      → (readOf file images scratch ≡ outcome (Unread BufferShort) images) ⊎ ((n ≤ length images) × (2 * n ≤ length scratch))
+      → (readOf file images scratch ≡ readOutcome (Unread BufferShort) images) ⊎ ((n ≤ length images) × (2 * n ≤ length scratch))
   unfolding readLines
   read-room n w h =
       elim (decLt (length images) n) [
         | yes l ↦ inl (read-opened n w h ∙ sym (ifLt-yes (length images) n _ _ _ l refl))
         | no l ↦ elim (decLt (length scratch) (2 * n)) [
           | yes m ↦
-              let short = ifLt-yes (length scratch) (2 * n) (outcome (Unread BufferShort) images) _ _ m refl in
+              let short = ifLt-yes (length scratch) (2 * n) (readOutcome (Unread BufferShort) images) _ _ m refl in
               inl (read-opened n w h ∙ sym (ifLt-no (length images) n _ _ _ (omega arith) short))
           | no m ↦ inr (omega arith, omega arith)
         ]
@@ -56,7 +57,7 @@ module _ (file images scratch : List ℕ) where
 
   read-scan : (n w : ℕ) → openOf file ≡ Set (shapeOf n w) → n ≤ length images → 2 * n ≤ length scratch
       → readOf file images scratch
-      ≡ scanLines n w file (cycles n w) 0 (λ r. outcome (Unread r) images) (outcome (Read n w) (overwrite n (imageOf n w file) images))
+      ≡ scanLines n w file (cycles n w) 0 (λ r. readOutcome (Unread r) images) (readAs n w file (overwrite n (imageOf n w file) images))
   unfolding readLines
   read-scan n w h l m = read-opened n w h ∙ sym (ifLt-no (length images) n _ _ _ l (ifLt-no (length scratch) (2 * n) _ _ _ m refl))
 
@@ -64,11 +65,11 @@ module _ (file images scratch : List ℕ) where
 
   -- it is accepted, and the permutation is written
   pub read-accepts : {n w : ℕ} {p : ℕ → ℕ} → openOf file ≡ Set (shapeOf n w) → n ≤ length images → 2 * n ≤ length scratch
-      → Performs n w file p → readOf file images scratch ≡ outcome (Read n w) (overwrite n p images)
+      → Performs n w file p → readOf file images scratch ≡ readAs n w file (overwrite n p images)
   read-accepts {n} {w} {p} h l m P =
       let D : Dims n w = opened-form file h .dims in
       read-scan n w h l m ∙ accepted-scan n w file _ _ (performs-accepted D P)
-      ∙ ap (outcome (Read n w)) (overwrite-ext n (imageOf n w file) p images (performs-image D P))
+      ∙ ap (readAs n w file) (overwrite-ext n (imageOf n w file) p images (performs-image D P))
 
   -- ---- and only that
 
@@ -83,8 +84,8 @@ module _ (file images scratch : List ℕ) where
   -- a reading is accepted with a permutation that is performed, or it is a refusal and the images stay
   abbrev pub Answered : Type 0
   Answered =
-      ((n : ℕ) × (w : ℕ) × (after : List ℕ) × (readOf file images scratch ≡ outcome (Read n w) after) × Performed n w after)
-      ⊎ ((r : Refusal) × (readOf file images scratch ≡ outcome (Unread r) images))
+      ((n : ℕ) × (w : ℕ) × (after : List ℕ) × (readOf file images scratch ≡ readAs n w file after) × Performed n w after)
+      ⊎ ((r : Refusal) × (readOf file images scratch ≡ readOutcome (Unread r) images))
 
   pub read-cases : Answered
   read-cases =
@@ -104,30 +105,31 @@ module _ (file images scratch : List ℕ) where
             written = overwrite-ext n f (λ i. getD after i 0) images same;
           } in
           ⊎-elim (λ r. inl (n, w, after, read-scan n w h l m ∙ r .0, performed (r .1))) (λ r. inr (r .0, read-scan n w h l m ∙ r .1))
-          (scan-cases n w file (λ r. outcome (Unread r) images) (outcome (Read n w) after))
+          (scan-cases n w file (λ r. readOutcome (Unread r) images) (readAs n w file after))
 
       formed : (n w : ℕ) → openOf file ≡ Set (shapeOf n w) → Dims n w → Answered
       formed n w h D = ⊎-elim (λ e. inr (BufferShort, e)) (λ r. scanned n w h D (r .0) (r .1)) (read-room n w h)
 
   -- an accepted reading has written what the datapath performs
-  pub read-performs : {n w : ℕ} {after : List ℕ} → readOf file images scratch ≡ outcome (Read n w) after → Performed n w after
+  pub read-performs : {n w : ℕ} {after : List ℕ} → readOf file images scratch ≡ readAs n w file after → Performed n w after
   read-performs {n} {w} {after} h = ⊎-elim accepted (λ r. let z : _≡_ {A = ℕ} 0 1 = cc (r .1) in absurd (omega arith)) read-cases
     where
-      accepted : (m : ℕ) × (v : ℕ) × (out : List ℕ) × (readOf file images scratch ≡ outcome (Read m v) out) × Performed m v out
+      accepted : (m : ℕ) × (v : ℕ) × (out : List ℕ) × (readOf file images scratch ≡ readAs m v file out) × Performed m v out
           → Performed n w after
       accepted r =
-          let words : r .0 ≡ n = cc (r .3) in
-          let width : r .1 ≡ w = cc (r .3) in
+          let contents : contentsOf (r .0) (r .1) file ≡ contentsOf n w file = cc (r .3) in
+          let words : r .0 ≡ n = ap (λ (c : Contents). c .words) contents in
+          let width : r .1 ≡ w = ap (λ (c : Contents). c .width) contents in
           let images : r .2 ≡ after = cc (r .3) in
           subst₃ Performed words width images (r .4)
 
   -- where no permutation is performed, the answer is a refusal and the images stay
   pub read-refuses : {n w : ℕ} → openOf file ≡ Set (shapeOf n w) → ((p : ℕ → ℕ) → Performs n w file p → ⊥)
-      → (r : Refusal) × (readOf file images scratch ≡ outcome (Unread r) images)
+      → (r : Refusal) × (readOf file images scratch ≡ readOutcome (Unread r) images)
   read-refuses {n} {w} h none = ⊎-elim accepted (λ r. r) read-cases
     where
-      accepted : (m : ℕ) × (v : ℕ) × (after : List ℕ) × (readOf file images scratch ≡ outcome (Read m v) after) × Performed m v after
-          → (r : Refusal) × (readOf file images scratch ≡ outcome (Unread r) images)
+      accepted : (m : ℕ) × (v : ℕ) × (after : List ℕ) × (readOf file images scratch ≡ readAs m v file after) × Performed m v after
+          → (r : Refusal) × (readOf file images scratch ≡ readOutcome (Unread r) images)
       accepted r =
           let P : Performs (r .0) (r .1) file (λ i. getD (r .2) i 0) = r .4 .performs in
           let F : Form (r .0) (r .1) file = opened-form file (r .4 .opened) in
@@ -137,7 +139,7 @@ module _ (file images scratch : List ℕ) where
 
   -- in one statement: p is performed exactly where the answer is that p is written
   pub read-exact : {n w : ℕ} (p : ℕ → ℕ) → openOf file ≡ Set (shapeOf n w) → n ≤ length images → 2 * n ≤ length scratch
-      → Performs n w file p ↔ (readOf file images scratch ≡ outcome (Read n w) (overwrite n p images))
+      → Performs n w file p ↔ (readOf file images scratch ≡ readAs n w file (overwrite n p images))
   read-exact {n} {w} p h l m = (
     read-accepts h l m,
     λ e. performs-ext (λ i q. getD-overwrite n p images i 0 q) (read-performs e .performs),
@@ -146,6 +148,6 @@ module _ (file images scratch : List ℕ) where
 -- a generated set is accepted and read back as its permutation
 pub generated-reads : {n w : ℕ} {p : ℕ → ℕ} {reads : ℕ → ℕ → ℕ} (images scratch : List ℕ) → Dims n w → Permutes n p → Schedule n w p reads
     → n ≤ length images → 2 * n ≤ length scratch
-    → readOf (setOf n w p reads) images scratch ≡ outcome (Read n w) (overwrite n p images)
+    → readOf (setOf n w p reads) images scratch ≡ readAs n w (setOf n w p reads) (overwrite n p images)
 generated-reads {n} {w} {p} {reads} images scratch D P S l m =
     read-accepts (setOf n w p reads) images scratch (setOf-opened D P S) l m (setOf-performs D P S)

@@ -21,7 +21,7 @@ use Rattle.network.proofs.Carried.{leaves-kept}
 use Rattle.tables.specs.Terms.{cycles, depth}
 use Rattle.tables.specs.Format.{readAddress, switchBit, writeAddress}
 use Rattle.tables.specs.Datapath.{carriedTo, source, target, carryStrays}
-use Rattle.tables.specs.Reading.{Outcome, readFault, writeFault, scanLines, imageOf}
+use Rattle.tables.specs.Reading.{ReadOutcome, readFault, writeFault, scanLines, imageOf}
 use Rattle.tables.specs.inner.Lines.{Line}
 use Rattle.tables.specs.inner.Gathering.{faulty, wordAt, placeAt, Gather, Markable, Marked}
 use Rattle.tables.proofs.Dims.{Dims, word-below, word-injective, depth-reaches}
@@ -247,7 +247,7 @@ module _ {n w : ℕ} {file : List ℕ} {t : ℕ} {places words reads sources wri
 pub record Gathering (n w : ℕ) (file : List ℕ) (t : ℕ) (places words : List ℕ) : Type 0 where
   pub upto : t ≤ cycles n w
   pub gathered : Gather n w file t places words
-  pub rest : (refused : Refusal → Outcome) (next : Outcome)
+  pub rest : (refused : Refusal → ReadOutcome) (next : ReadOutcome)
       → scanLines n w file (cycles n w) 0 refused next ≡ scanLines n w file (cycles n w - t) t refused next
 
 module _ {n w : ℕ} {file : List ℕ} where
@@ -259,7 +259,7 @@ module _ {n w : ℕ} {file : List ℕ} where
   }
 
   -- what is left, with its first line
-  left : {t : ℕ} {places words : List ℕ} → Gathering n w file t places words → t < cycles n w → (refused : Refusal → Outcome) (next : Outcome)
+  left : {t : ℕ} {places words : List ℕ} → Gathering n w file t places words → t < cycles n w → (refused : Refusal → ReadOutcome) (next : ReadOutcome)
       → scanLines n w file (cycles n w) 0 refused next ≡ scanLines n w file (suc (cycles n w - (t + 1))) t refused next
   left {t} S l refused next = S .rest refused next ∙ ap (λ (k : ℕ). scanLines n w file k t refused next) (omega arith)
 
@@ -275,8 +275,8 @@ module _ {n w : ℕ} {file : List ℕ} where
       }
 
   pub gathering-refused : {t : ℕ} {places words : List ℕ} {r : Refusal} → Gathering n w file t places words → t < cycles n w
-      → ((k : ℕ) (refused : Refusal → Outcome) (next : Outcome) → scanLines n w file (suc k) t refused next ≡ refused r)
-      → (refused : Refusal → Outcome) (next : Outcome) → scanLines n w file (cycles n w) 0 refused next ≡ refused r
+      → ((k : ℕ) (refused : Refusal → ReadOutcome) (next : ReadOutcome) → scanLines n w file (suc k) t refused next ≡ refused r)
+      → (refused : Refusal → ReadOutcome) (next : ReadOutcome) → scanLines n w file (cycles n w) 0 refused next ≡ refused r
   gathering-refused {t} S l stops refused next = left S l refused next ∙ stops (cycles n w - (t + 1)) refused next
 
   pub gathering-all : {t : ℕ} {places words : List ℕ} → Gathering n w file t places words → cycles n w ≤ t → Gather n w file (cycles n w) places words
@@ -296,6 +296,6 @@ module _ {n w : ℕ} {file : List ℕ} where
       ap (λ (z : ℕ). getD places z 0) (sym (r .2)) ∙ G .placed (r .0) (i % w) (r .1) (mod-lt i (D .wide)) ∙ sym (r .3)
 
   -- what reading answers then
-  pub gather-scan : {places words : List ℕ} → Gather n w file (cycles n w) places words → (refused : Refusal → Outcome) (next : Outcome)
+  pub gather-scan : {places words : List ℕ} → Gather n w file (cycles n w) places words → (refused : Refusal → ReadOutcome) (next : ReadOutcome)
       → scanLines n w file (cycles n w) 0 refused next ≡ next
   gather-scan G refused next = accepted-scan n w file refused next (gather-accepted G)

@@ -15,6 +15,7 @@ use Rattle.tables.specs.Format.{readAddress, writeAddress, openOf}
 use Rattle.tables.specs.Datapath.{target, carryStrays}
 use Rattle.tables.specs.declared.Opened.{Opened}
 use Rattle.tables.specs.declared.Opened.the-variants.{Set, Refused}
+use Rattle.tables.specs.declared.Contents.{Contents}
 use Rattle.tables.specs.declared.Reading.{Reading}
 use Rattle.tables.specs.declared.Reading.the-variants.{Read, Refused as Unread}
 
@@ -31,11 +32,18 @@ writeFault n w file t k =
     (any t (λ s. eqb (writeAddress n w file s k) (writeAddress n w file t k)))
 
 -- an answer, with the lent images afterwards
-pub data Outcome : Type 0 where
-  outcome : Reading → List ℕ → Outcome
+pub data ReadOutcome : Type 0 where
+  readOutcome : Reading → List ℕ → ReadOutcome
+
+-- what an accepted reading returns beside the written images: n and w
+abbrev pub contentsOf : ℕ → ℕ → List ℕ → Contents
+contentsOf n w file = record { words = n; width = w }
+
+abbrev pub readAs : ℕ → ℕ → List ℕ → List ℕ → ReadOutcome
+readAs n w file images = readOutcome (Read (contentsOf n w file)) images
 
 -- "line by line 9, 10, 11" over the k lines from line t on; then next
-unfoldable pub scanLines : ℕ → ℕ → List ℕ → ℕ → ℕ → (Refusal → Outcome) → Outcome → Outcome
+unfoldable pub scanLines : ℕ → ℕ → List ℕ → ℕ → ℕ → (Refusal → ReadOutcome) → ReadOutcome → ReadOutcome
 scanLines n w file zero t refused next = next
 scanLines n w file (suc k) t refused next =
     choose (any w (readFault n w file t)) (refused (ReadAddress t))
@@ -47,16 +55,16 @@ unfoldable pub imageOf : ℕ → ℕ → List ℕ → ℕ → ℕ
 imageOf n w file i = target n w file (inverse (cycles n w) (λ s. readAddress n w file s (i % w)) (i / w)) (i % w)
 
 -- reading a set of the right form, of n words and width w: 12, then the lines; accepted, the first n images are written
-unfoldable pub readLines : ℕ → ℕ → List ℕ → List ℕ → List ℕ → Outcome
+unfoldable pub readLines : ℕ → ℕ → List ℕ → List ℕ → List ℕ → ReadOutcome
 readLines n w file images scratch =
-    ifLt (length images) n (outcome (Unread BufferShort) images)
-    (ifLt (length scratch) (2 * n) (outcome (Unread BufferShort) images)
-    (scanLines n w file (cycles n w) 0 (λ r. outcome (Unread r) images) (outcome (Read n w) (overwrite n (imageOf n w file) images))))
+    ifLt (length images) n (readOutcome (Unread BufferShort) images)
+    (ifLt (length scratch) (2 * n) (readOutcome (Unread BufferShort) images)
+    (scanLines n w file (cycles n w) 0 (λ r. readOutcome (Unread r) images) (readAs n w file (overwrite n (imageOf n w file) images))))
 
-unfoldable pub readOpened : Opened → List ℕ → List ℕ → List ℕ → Outcome
+unfoldable pub readOpened : Opened → List ℕ → List ℕ → List ℕ → ReadOutcome
 readOpened (Set shape) file images scratch = readLines (shape .words) (shape .width) file images scratch
-readOpened (Refused r) file images scratch = outcome (Unread r) images
+readOpened (Refused r) file images scratch = readOutcome (Unread r) images
 
 -- the call: its answer, and the images afterwards. Scratch is lent and not written.
-unfoldable pub readOf : List ℕ → List ℕ → List ℕ → Outcome
+unfoldable pub readOf : List ℕ → List ℕ → List ℕ → ReadOutcome
 readOf file images scratch = readOpened (openOf file) file images scratch

@@ -6,8 +6,9 @@ ghost use Rattle.limits.specs.Limits.{mostWidth, mostSwitches};
 ghost use Rattle.laws.specs.Tabulate.{overwrite};
 ghost use Rattle.tables.specs.Terms.{cycles};
 ghost use Rattle.tables.specs.Format.{Shaped};
-ghost use Rattle.tables.specs.Reading.{outcome, readLines, readOf};
+ghost use Rattle.tables.specs.Reading.{readOutcome, readLines, readOf};
 ghost use Rattle.tables.specs.inner.Gathering.{faulty, Gather, Gathers, GathersAll, Markable, Marked};
+use crate::Contents;
 use crate::Opened;
 use crate::Reading;
 use crate::Shape;
@@ -20,7 +21,7 @@ use limits::MOST_WORDS;
 use limits::NO_WORD;
 use refusal::Refusal;
 
-pub enum Gathered {
+enum Gathered {
     All,
     Refused(Refusal),
 }
@@ -98,8 +99,8 @@ fn gather_line(
     Gathered::All
 }
 
-// The place of each word and the word of each place, over all lines. Only our own crates call it, with arrays that hold no marks.
-pub fn gather(file: &[u8], shape: Shape, places: &mut [u16], words: &mut [u16]) -> Gathered
+// The place of each word and the word of each place, over all lines. The arrays hold no marks at first.
+fn gather(file: &[u8], shape: Shape, places: &mut [u16], words: &mut [u16]) -> Gathered
     requires { ⌜ Shaped shape ⌝ }
     requires { ⌜ Gather (shape .words) (shape .width) (now file) 0 (now places) (now words) ⌝ }
     ensures { λ r. ⌜ GathersAll (shape .words) (shape .width) (now (file .entry)) r (now (places .exit)) (now (words .exit)) ⌝ }
@@ -145,7 +146,7 @@ fn write_images(places: &[u16], images: &mut [u16], n: usize)
 // Reads a set of the right form.
 fn read_set(file: &[u8], shape: Shape, images: &mut [u16], scratch: &[u16]) -> Reading
     requires { ⌜ Shaped shape ⌝ }
-    ensures { λ r. ⌜ outcome r (now (images .exit)) ≡ readLines (shape .words) (shape .width) (now (file .entry)) (now (images .entry)) (now (scratch .entry)) ⌝ }
+    ensures { λ r. ⌜ readOutcome r (now (images .exit)) ≡ readLines (shape .words) (shape .width) (now (file .entry)) (now (images .entry)) (now (scratch .entry)) ⌝ }
 {
     let words = shape.words;
     if images.len() < words {
@@ -160,14 +161,17 @@ fn read_set(file: &[u8], shape: Shape, images: &mut [u16], scratch: &[u16]) -> R
         Gathered::Refused(refusal) => Reading::Refused(refusal),
         Gathered::All => {
             write_images(&place_of, images, words);
-            Reading::Read(words, shape.width)
+            Reading::Read(Contents {
+                words,
+                width: shape.width,
+            })
         }
     }
 }
 
 // Reads a set: n and w, and the permutation that it performs in the first n images. Scratch is lent and not written.
 pub fn read(file: &[u8], images: &mut [u16], scratch: &[u16]) -> Reading
-    ensures { λ r. ⌜ outcome r (now (images .exit)) ≡ readOf (now (file .entry)) (now (images .entry)) (now (scratch .entry)) ⌝ }
+    ensures { λ r. ⌜ readOutcome r (now (images .exit)) ≡ readOf (now (file .entry)) (now (images .entry)) (now (scratch .entry)) ⌝ }
 {
     match open(file) {
         Opened::Refused(refusal) => Reading::Refused(refusal),

@@ -3,8 +3,6 @@ mod gathering;
 mod lines;
 mod opening;
 
-pub use gathering::Gathered;
-pub use gathering::gather;
 pub use gathering::read;
 pub use lines::any_from;
 pub use lines::line_at;
@@ -48,8 +46,15 @@ pub enum Opened {
     Refused(Refusal),
 }
 
+// What an accepted reading returns beside the written images.
+pub struct Contents {
+    // n, the words of a frame.
+    pub words: usize,
+    // w, the words of a cycle.
+    pub width: usize,
+}
+
 pub enum Reading {
-    // n and w, beside the written images.
-    Read(usize, usize),
+    Read(Contents),
     Refused(Refusal),
 }

@@ -5,7 +5,7 @@ use borrow.Author.Needs.{needs}
 use lib.ListN.{length, replicate}
 use Rattle.limits.specs.Limits.{mostWords, textRoom}
 use Rattle.laws.proofs.Choices.{ifLt-yes}
-use Rattle.tables.specs.Reading.{outcome}
+use Rattle.tables.specs.Reading.{readOutcome}
 use Rattle.tables.specs.declared.Reading.{Reading}
 use Rattle.tables.proofs.Form.{opened-dims}
 use Rattle.tables.proofs.Exact.{read-performs}
@@ -36,8 +36,8 @@ number-requires c κs = search needs
 put-refusal-requires : tie.Need-put-refusal-requires
 put-refusal-requires c κs = (rw (c .number .ensures) (number-short (c .before .before .before .refusal .given .0 .0)), c .before .before .before .before .before .before .before .before .before .if1 .left)
 
-enum-known-n : tie.Need-enum-known-n
-enum-known-n c = search needs
+enum-known-contents : tie.Need-enum-known-contents
+enum-known-contents c = search needs
 
 slice-aggregate-put-set : tie.Need-slice-aggregate-put-set
 slice-aggregate-put-set c = search needs
@@ -46,7 +46,7 @@ put-set-requires : tie.Need-put-set-requires
 put-set-requires c κs =
     let s = c .before .before .before .before .before .before .before .before .before .before .before .before in
     let file = s .args .file .now in
-    let q = sym (c .before .before .before .before .before .before .read .ensures) ∙ ap (λ (z : Reading). outcome z (c .before .before .before .before .before .before .read .last .1 .0)) (c .before .before .before .n .given .1) in
+    let q = sym (c .before .before .before .before .before .before .read .ensures) ∙ ap (λ (z : Reading). readOutcome z (c .before .before .before .before .before .before .read .last .1 .0)) (c .before .before .before .contents .given .1) in
     let known = read-performs file (replicate mostWords 0) (replicate 8192 0) q in
     let D = opened-dims file (known .opened) .0 in
     ((D .few, D .wide, D .narrow, omega (arith, known .room, c .before .before .before .before .before .before .read .kept .1 .0), c .before .before .before .before .before .before .before .before .before .if1 .left), known .performs .permutes)
@@ -58,7 +58,7 @@ returns-2 : tie.Need-returns-2
 unfolding descriptionOf textOf
 returns-2 c =
     let s = c .before .before .before .before .before .before .before .before .before .before .before .before .before .before .before in
-    let e = ap textOf (sym (c .before .before .before .before .before .before .before .before .before .read .ensures) ∙ ap (λ (z : Reading). outcome z (c .before .before .before .before .before .before .before .before .before .read .last .1 .0)) (c .before .before .before .before .before .before .refusal .given .1)) in
+    let e = ap textOf (sym (c .before .before .before .before .before .before .before .before .before .read .ensures) ∙ ap (λ (z : Reading). readOutcome z (c .before .before .before .before .before .before .before .before .before .read .last .1 .0)) (c .before .before .before .before .before .before .refusal .given .1)) in
     tells (s .args .file .now) (s .args .text .now) (c .before .before .before .before .before .before .before .before .before .before .before .before .if1 .left) e (wrote-same (ap refusalText (c .before .before .before .number .ensures)) (c .before .before .put-refusal .ensures))
 
 same-length-2 : tie.Need-same-length-2
@@ -68,7 +68,7 @@ returns-3 : tie.Need-returns-3
 unfolding descriptionOf textOf
 returns-3 c =
     let s = c .before .before .before .before .before .before .before .before .before .before .before .before .before .before .before in
-    let e = ap textOf (sym (c .before .before .before .before .before .before .before .before .before .read .ensures) ∙ ap (λ (z : Reading). outcome z (c .before .before .before .before .before .before .before .before .before .read .last .1 .0)) (c .before .before .before .before .before .before .n .given .1)) in
+    let e = ap textOf (sym (c .before .before .before .before .before .before .before .before .before .read .ensures) ∙ ap (λ (z : Reading). readOutcome z (c .before .before .before .before .before .before .before .before .before .read .last .1 .0)) (c .before .before .before .before .before .before .contents .given .1)) in
     tells (s .args .file .now) (s .args .text .now) (c .before .before .before .before .before .before .before .before .before .before .before .before .if1 .left) e (c .before .before .put-set .ensures)
 
 pub describe-spec : {M : Type 1} → statement M
@@ -82,7 +82,7 @@ describe-spec =
     enum-known-refusal
     number-requires
     put-refusal-requires
-    enum-known-n
+    enum-known-contents
     slice-aggregate-put-set
     put-set-requires
     same-length

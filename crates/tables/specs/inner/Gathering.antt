@@ -13,7 +13,7 @@ use Rattle.refusal.specs.declared.Refusal.{Refusal}
 use Rattle.tables.specs.Terms.{cycles}
 use Rattle.tables.specs.Format.{readAddress, writeAddress}
 use Rattle.tables.specs.Datapath.{carryStrays, source, target}
-use Rattle.tables.specs.Reading.{Outcome, readFault, writeFault, scanLines}
+use Rattle.tables.specs.Reading.{ReadOutcome, readFault, writeFault, scanLines}
 use Rattle.tables.specs.declared.gathering.Gathered.{Gathered}
 use Rattle.tables.specs.declared.gathering.Gathered.the-variants.{All, Refused}
 
@@ -35,13 +35,13 @@ pub record Gather (n w : ℕ) (file : List ℕ) (t : ℕ) (places words : List �
 -- what the answer to one line says: it passed, or the scan of the lines stops there
 abbrev pub Gathers : ℕ → ℕ → List ℕ → ℕ → Gathered → List ℕ → List ℕ → Type 0
 Gathers n w file t All places words = Gather n w file (t + 1) places words
-Gathers n w file t (Refused r) places words = (k : ℕ) (refused : Refusal → Outcome) (next : Outcome) → scanLines n w file (suc k) t refused next ≡ refused r
+Gathers n w file t (Refused r) places words = (k : ℕ) (refused : Refusal → ReadOutcome) (next : ReadOutcome) → scanLines n w file (suc k) t refused next ≡ refused r
 
 -- what the answer to all lines says
 abbrev pub GathersAll : ℕ → ℕ → List ℕ → Gathered → List ℕ → List ℕ → Type 0
 GathersAll n w file All places words = Gather n w file (cycles n w) places words
 GathersAll n w file (Refused r) places words =
-    (refused : Refusal → Outcome) (next : Outcome) → scanLines n w file (cycles n w) 0 refused next ≡ refused r
+    (refused : Refusal → ReadOutcome) (next : ReadOutcome) → scanLines n w file (cycles n w) 0 refused next ≡ refused r
 
 -- the word that a line sends to bank k, and its place
 abbrev pub wordAt : List ℕ → List ℕ → ℕ → ℕ → ℕ

@@ -7,9 +7,9 @@ use lib.ListN.{length}
 use Rattle.laws.specs.Tabulate.{overwrite}
 use Rattle.laws.proofs.Choices.{ifLt-yes, ifLt-no}
 use Rattle.laws.proofs.Tabulates.{overwrite-ext}
-use Rattle.tables.specs.Reading.{outcome, imageOf, readLines}
+use Rattle.tables.specs.Reading.{readOutcome, readAs, imageOf, readLines}
 use Rattle.tables.specs.inner.Gathering.{Gather, GathersAll}
-use Rattle.tables.specs.declared.Reading.the-variants.{Read, Refused}
+use Rattle.tables.specs.declared.Reading.the-variants.{Refused}
 use Rattle.tables.specs.declared.gathering.Gathered.{Gathered}
 use Rattle.tables.proofs.Gathers.{gather-none, gather-images, gather-scan}
 use Rattle.tables.proofs.gathering.read_set.Statement.{statement}
@@ -56,7 +56,7 @@ returns-3 c =
     let images = s .args .images .now in
     let G : Gathered → Type 0 = λ g. GathersAll n w (s .args .file .now) g (c .before .before .before .before .before .gather .last .1 .1 .0) (c .before .before .before .before .before .gather .last .1 .1 .1 .0) in
     let stops = subst G (c .before .refusal .given .1) (c .before .before .before .before .before .gather .ensures) in
-    ifLt-no _ _ _ _ _ (c .before .before .before .before .before .before .before .before .before .if1 .left) (ifLt-no _ _ _ _ _ (c .before .before .before .before .before .before .before .before .if2 .left) (sym (stops (λ r. outcome (Refused r) images) _)))
+    ifLt-no _ _ _ _ _ (c .before .before .before .before .before .before .before .before .before .if1 .left) (ifLt-no _ _ _ _ _ (c .before .before .before .before .before .before .before .before .if2 .left) (sym (stops (λ r. readOutcome (Refused r) images) _)))
 
 same-length : tie.Need-same-length
 same-length c = search needs
@@ -73,7 +73,7 @@ returns-4 c =
     let all : Gather n w (s .args .file .now) _ _ _ = subst G (c .before .before .before .before .before .enum-told .given .1) (c .before .before .before .before .before .before .before .before .before .gather .ensures) in
     let made = c .before .before .write-images .ensures ∙ overwrite-ext n _ (imageOf n w (s .args .file .now)) images (gather-images D all) in
     ifLt-no _ _ _ _ _ (c .before .before .before .before .before .before .before .before .before .before .before .before .before .if1 .left) (ifLt-no _ _ _ _ _ (c .before .before .before .before .before .before .before .before .before .before .before .before .if2 .left)
-    (ap (λ (xs : List ℕ). outcome (Read n w) xs) made ∙ sym (gather-scan all (λ r. outcome (Refused r) images) _)))
+    (ap (λ (xs : List ℕ). readAs n w (s .args .file .now) xs) made ∙ sym (gather-scan all (λ r. readOutcome (Refused r) images) _)))
 
 pub read-set-spec : {M : Type 1} → statement M
 read-set-spec =
