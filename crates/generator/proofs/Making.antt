@@ -18,7 +18,7 @@ use Rattle.bits.specs.declared.writer.Writer.{Writer}
 use Rattle.bits.proofs.Fields.{length-putField}
 use Rattle.network.specs.Carried.{carried}
 use Rattle.network.proofs.Carried.{carried-below, carried-above, carried-permutes}
-use Rattle.network.proofs.Fronts.{front-inverses}
+use Rattle.setting.proofs.Fronts.{front-inverses}
 use Rattle.tables.specs.Header.{headerOf, headerBits}
 use Rattle.tables.specs.Terms.{Dims, cycles, depth, lineBits, fileLength}
 use Rattle.tables.specs.Format.{lineAt}

@@ -6,11 +6,12 @@ use native.Mathlib.Omega.{arith}
 use native.Mathlib.Decide.{ℕ-discrete}
 use Rattle.laws.specs.Choice.{choose}
 use Rattle.laws.specs.Any.{any}
+use Rattle.laws.proofs.Choices.{false-true}
 
 -- a number of which the test is true
 pub any-true : (n : ℕ) (f : ℕ → Bool) → any n f ≡ true → (i : ℕ) × (i < n) × (f i ≡ true)
 unfolding any
-any-true zero f h = let z : _≡_ {A = ℕ} 0 1 = cc in absurd (omega arith)
+any-true zero f h = false-true h
 any-true (suc n) f h = by (any n f) (any-true n f) h
   where
     by : (t : Bool) → (t ≡ true → (i : ℕ) × (i < n) × (f i ≡ true)) → choose t true (f n) ≡ true → (i : ℕ) × (i < suc n) × (f i ≡ true)
@@ -24,7 +25,7 @@ any-false zero f h i l = absurd (omega arith)
 any-false (suc n) f h i l = by (any n f) (λ e. any-false n f e i) h
   where
     by : (t : Bool) → (t ≡ false → i < n → f i ≡ false) → choose t true (f n) ≡ false → f i ≡ false
-    by true before g = let z : _≡_ {A = ℕ} 0 1 = cc in absurd (omega arith)
+    by true before g = false-true (sym g)
     by false before g = elim (ℕ-discrete i n) [ yes q ↦ rw q g | no q ↦ before refl (omega arith) ]
 
 pub any-none : (n : ℕ) (f : ℕ → Bool) → ((i : ℕ) → i < n → f i ≡ false) → any n f ≡ false

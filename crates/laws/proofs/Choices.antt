@@ -3,9 +3,14 @@
 use Prim.Native.Nat.{ℕ, _<_, _≤_}
 use mathlib.Core.Path.{_≡_, refl}
 use mathlib.Core.Bool.{Bool, true, false}
+use native.Mathlib.Omega.{arith}
 use lib.Dec.{ltb, leb, eqb}
 use borrow.Author.Tests.{ltb-true, ltb-false, leb-true, leb-false, eqb-true, eqb-false, lt-ltb, le-ltb, le-leb, lt-leb, eq-eqb, ne-eqb}
 use Rattle.laws.specs.Choice.{choose, ifLt, ifLe, ifEq}
+
+-- the two outcomes of a test are apart
+pub false-true {ℓ} : {X : Type ℓ} → false ≡ true → X
+false-true h = let z : _≡_ {A = ℕ} 0 1 = cc in absurd (omega arith)
 
 -- the first arm, by a test that came out true
 pub choose-yes {ℓ} : {X : Type ℓ} (t : Bool) (r x y : X) → t ≡ true → r ≡ x → r ≡ choose t x y

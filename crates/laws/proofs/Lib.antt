@@ -6,3 +6,4 @@ pub mod Sums
 pub mod Pigeonhole
 pub mod Permutations
 pub mod Joins
+pub mod Invertings

@@ -1,5 +1,5 @@
 -- Permutations of fewer lines than the network has. One of w lines, carried to v, is one of v lines, and the network set for it performs
--- it. The other way round, a network that keeps the lines below w below w permutes them, and the spare lines among themselves.
+-- it. The other way round, a network that keeps the lines below w below w permutes them.
 use Prim.Native.Nat.{ℕ, _^_, _<_, _≤_}
 use mathlib.Core.Path.{_≡_, refl, sym, _∙_}
 use native.Mathlib.Omega.{arith}
@@ -7,7 +7,6 @@ use native.Mathlib.Decide.{decLt}
 use lib.ListN.{getD}
 use Rattle.laws.specs.Permutation.{Permutes}
 use Rattle.laws.proofs.Choices.{ifLt-yes, ifLt-no}
-use Rattle.laws.proofs.Permutations.{onto}
 use Rattle.network.specs.Network.{leaves}
 use Rattle.network.specs.Setting.{setting}
 use Rattle.network.specs.Carried.{carried}
@@ -56,16 +55,6 @@ kept-permutes w v f fits P keeps = record {
   below = keeps;
   injective = λ x y l m. P .injective x y (omega arith) (omega arith);
 }
-
--- and the others among themselves
-pub kept-above : (w v : ℕ) (f : ℕ → ℕ) → w ≤ v → Permutes v f → ((x : ℕ) → x < w → f x < w) → (x : ℕ) → w ≤ x → x < v → w ≤ f x
-kept-above w v f fits P keeps x l m = elim (decLt (f x) w) [
-  | yes a ↦
-      let r = onto w f (kept-permutes w v f fits P keeps) (f x) a in
-      let same : r .0 ≡ x = P .injective (r .0) x (omega (arith, r .1)) m (r .2) in
-      absurd (omega (arith, r .1))
-  | no a ↦ omega arith
-]
 
 -- a network that keeps the lines below w below w permutes them
 pub leaves-kept : (d w : ℕ) (bits : ℕ → ℕ) → w ≤ 2 ^ d → ((x : ℕ) → x < w → leaves d bits x < w) → Permutes w (leaves d bits)

@@ -6,12 +6,13 @@ use lib.Pow.{pow-mono}
 use Rattle.limits.specs.Limits.{mostWidth}
 use Rattle.laws.specs.Choice.{ifEq}
 use Rattle.laws.proofs.Choices.{ifEq-cases}
-use Rattle.network.specs.Calls.{depthOf}
+use Rattle.network.specs.Network.{depthOf}
 
 pub depth-width : (width : ℕ) → depthOf width ≤ 6 → width ≡ 2 ^ depthOf width
 unfolding depthOf
 depth-width width =
-    try 1 0 (λ e l. e) (try 2 1 (λ e l. e) (try 4 2 (λ e l. e) (try 8 3 (λ e l. e) (try 16 4 (λ e l. e) (try 32 5 (λ e l. e) (try 64 6 (λ e l. e) (λ l. absurd (omega arith))))))))
+    try 1 0 (λ e l. e) (try 2 1 (λ e l. e) (try 4 2 (λ e l. e) (try 8 3 (λ e l. e)
+    (try 16 4 (λ e l. e) (try 32 5 (λ e l. e) (try 64 6 (λ e l. e) (λ l. absurd (omega arith))))))))
   where
     -- the depth d of the width v, or what the later tests give
     try : (v d : ℕ) {later : ℕ} → (width ≡ v → d ≤ 6 → width ≡ 2 ^ d) → (later ≤ 6 → width ≡ 2 ^ later)

@@ -8,7 +8,7 @@ use native.Mathlib.Decide.{decLt}
 use Rattle.laws.specs.Permutation.{Permutes}
 use Rattle.laws.proofs.Choices.{ifLt-yes, ifLt-no}
 use Rattle.network.specs.Network.{partner}
-use Rattle.network.specs.Rule.{Loop, itself, input, Halves, inner, Rule}
+use Rattle.network.specs.Rule.{Loop, itself, input, Halves, inner, arranged, Rule}
 use Rattle.network.specs.Setting.{next, rank, least, chosen, setting}
 use Rattle.network.proofs.Partners.{companion, partner-below, partner-partner, companion-unique, next-below, next-partner}
 use Rattle.network.proofs.Orbits.{iterate}
@@ -90,17 +90,22 @@ module _ (n : ℕ) (p : ℕ → ℕ) (P : Permutes n p) (even : n % 2 ≡ 0) whe
     lowest = chosen-lowest;
   }
 
+-- one level by the rule, from any halves by the rule and settings of the inner networks
+pub level-rule : (e : ℕ) (p h : ℕ → ℕ) → Permutes (2 ^ suc e) p → Halves (2 ^ suc e) p h
+    → ((q : ℕ → ℕ) → Permutes (2 ^ e) q → Rule e q (setting e q))
+    → Rule (suc e) p (arranged e p h (setting e (inner p h 0)) (setting e (inner p h 1)))
+level-rule e p h P H inside = (
+  h,
+  setting e (inner p h 0),
+  setting e (inner p h 1),
+  H,
+  inside (inner p h 0) (inner-permutes e p h P H 0 (omega arith)),
+  inside (inner p h 1) (inner-permutes e p h P H 1 (omega arith)),
+  refl,
+)
+
 pub setting-rule : (d : ℕ) (p : ℕ → ℕ) → Permutes (2 ^ d) p → Rule d p (setting d p)
 unfolding setting
 setting-rule zero p P = refl
 setting-rule (suc e) p P =
-    let h : ℕ → ℕ = chosen (2 ^ suc e) p in
-    let H : Halves (2 ^ suc e) p h = chosen-halves (2 ^ suc e) p P (width-even e) in (
-      h,
-      setting e (inner p h 0),
-      setting e (inner p h 1),
-      H,
-      setting-rule e (inner p h 0) (inner-permutes e p h P H 0 (omega arith)),
-      setting-rule e (inner p h 1) (inner-permutes e p h P H 1 (omega arith)),
-      refl,
-    )
+    level-rule e p (chosen (2 ^ suc e) p) P (chosen-halves (2 ^ suc e) p P (width-even e)) (λ q Q. setting-rule e q Q)

@@ -1,41 +1,15 @@
--- Facts on halves that follow the rule. Two lines that share a switch add up to 1. To show the rule it is enough that a crossed input
--- switch has a reason: its loop holds the line that leaves last, or a line of a lower switch. Only the values below n count.
-use Prim.Native.Nat.{ℕ, zero, suc, _+_, _-_, _/_, _%_, _<_}
+-- Facts on halves that follow the rule. Two lines that share a switch add up to 1, lines of one walk have one half, and only the values
+-- below n count.
+use Prim.Native.Nat.{ℕ, zero, suc, _+_, _-_, _%_, _<_}
 use mathlib.Core.Path.{_≡_, refl, sym, ap, subst, _∙_}
-use mathlib.Core.Logic.{_⊎_, ⊎-elim}
 use native.Mathlib.Omega.{arith}
-use native.Mathlib.Decide.{ℕ-discrete}
 use Rattle.laws.specs.Permutation.{Permutes}
 use Rattle.network.specs.Network.{partner}
-use Rattle.network.specs.Rule.{Loop, Halves}
+use Rattle.network.specs.Rule.{Halves}
 use Rattle.network.specs.Setting.{next}
 use Rattle.network.proofs.Partners.{companion-leaves, partner-below, next-below}
 use Rattle.network.proofs.Orbits.{iterate}
 use Rattle.network.proofs.Loops.{loop-below, loop-ext}
-
--- why input switch x / 2 is crossed: a line of its loop leaves last, or is of a lower switch
-abbrev pub Reason : ℕ → (ℕ → ℕ) → ℕ → Type 0
-Reason n p x = (y : ℕ) × Loop n p x y × ((p y ≡ n - 1) ⊎ (y / 2 < x / 2))
-
--- halves that differ at every switch, with a reason for each crossed input switch
-pub halves-intro : (n : ℕ) (p h : ℕ → ℕ)
-    → ((x : ℕ) → x < n → h x < 2)
-    → ((x : ℕ) → x < n → h x ≡ h (partner x) → ⊥)
-    → ((x y : ℕ) → x < n → y < n → p y ≡ partner (p x) → h x ≡ h y → ⊥)
-    → ((x : ℕ) → x < n → p x ≡ n - 1 → h x ≡ 1)
-    → ((x : ℕ) → x < n → x % 2 ≡ 0 → h x ≡ 1 → Reason n p x)
-    → Halves n p h
-halves-intro n p h two inputs outputs last crossed = record {
-  two = two;
-  inputs = inputs;
-  outputs = outputs;
-  last = last;
-  lowest = λ x l even none low. elim (ℕ-discrete (h x) 1) [
-    | yes e ↦ let r = crossed x l even e in
-        absurd (⊎-elim (λ a. none (r .0) (r .1) a) (λ a. omega (arith, a, low (r .0) (r .1))) (r .2))
-    | no ne ↦ omega (arith, two x l)
-  ];
-}
 
 module _ (n : ℕ) (p h : ℕ → ℕ) (even : n % 2 ≡ 0) (H : Halves n p h) where
   pub halves-partner : (x : ℕ) → x < n → h (partner x) + h x ≡ 1

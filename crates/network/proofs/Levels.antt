@@ -9,25 +9,25 @@ use lib.Pow.{pow-pos}
 use Rattle.laws.specs.Permutation.{Permutes, inverse}
 use Rattle.laws.proofs.Permutations.{inverse-below, inverse-right, inverse-left}
 use Rattle.network.specs.Network.{partner, half, exit}
-use Rattle.network.specs.Rule.{Halves, lineOf, inner}
+use Rattle.network.specs.Rule.{Halves, lineInto, inner}
 use Rattle.network.proofs.Partners.{same-switch}
 use Rattle.network.proofs.Halves.{halves-partner, halves-companion}
 
 pub width-even : (e : ℕ) → 2 ^ suc e % 2 ≡ 0
 width-even e = omega arith
 
-pub lineOf-below : (e : ℕ) (h : ℕ → ℕ) (c j : ℕ) → j < 2 ^ e → lineOf h c j < 2 ^ suc e
-lineOf-below e h c j l = omega arith
+pub lineInto-below : (e : ℕ) (h : ℕ → ℕ) (c j : ℕ) → j < 2 ^ e → lineInto h c j < 2 ^ suc e
+lineInto-below e h c j l = omega arith
 
-pub lineOf-switch : (h : ℕ → ℕ) (c j : ℕ) → lineOf h c j / 2 ≡ j
-lineOf-switch h c j = omega arith
+pub lineInto-switch : (h : ℕ → ℕ) (c j : ℕ) → lineInto h c j / 2 ≡ j
+lineInto-switch h c j = omega arith
 
 -- inner lines of maps and halves that agree
 pub inner-ext : (e : ℕ) (p q h g : ℕ → ℕ) → ((x : ℕ) → x < 2 ^ suc e → p x ≡ q x) → ((x : ℕ) → x < 2 ^ suc e → h x ≡ g x)
     → (c j : ℕ) → j < 2 ^ e → inner p h c j ≡ inner q g c j
 inner-ext e p q h g same alike c j l =
     ap (λ (z : ℕ). z / 2)
-    (same (lineOf h c j) (lineOf-below e h c j l) ∙ ap (λ (z : ℕ). q (2 * j + (c + z) % 2)) (alike (2 * j) (omega arith)))
+    (same (lineInto h c j) (lineInto-below e h c j l) ∙ ap (λ (z : ℕ). q (2 * j + (c + z) % 2)) (alike (2 * j) (omega arith)))
 
 module _ (e : ℕ) (p h : ℕ → ℕ) (P : Permutes (2 ^ suc e) p) (H : Halves (2 ^ suc e) p h) where
   -- the even line of a switch and its partner
@@ -37,10 +37,10 @@ module _ (e : ℕ) (p h : ℕ → ℕ) (P : Permutes (2 ^ suc e) p) (H : Halves 
       rw odd at (halves-partner (2 ^ suc e) p h (width-even e) H (2 * j) (omega arith))
 
   -- the line of half c takes half c
-  pub half-lineOf : (c j : ℕ) → c < 2 → j < 2 ^ e → h (lineOf h c j) ≡ c
-  half-lineOf c j l m = elim (ℕ-discrete (h (2 * j)) c) [
-    | yes q ↦ let there : lineOf h c j ≡ 2 * j = omega arith in rw there q
-    | no ne ↦ let there : lineOf h c j ≡ 2 * j + 1 = omega (arith, switch-halves j m) in rw there (omega (arith, switch-halves j m))
+  pub half-lineInto : (c j : ℕ) → c < 2 → j < 2 ^ e → h (lineInto h c j) ≡ c
+  half-lineInto c j l m = elim (ℕ-discrete (h (2 * j)) c) [
+    | yes q ↦ let there : lineInto h c j ≡ 2 * j = omega arith in rw there q
+    | no ne ↦ let there : lineInto h c j ≡ 2 * j + 1 = omega (arith, switch-halves j m) in rw there (omega (arith, switch-halves j m))
   ]
 
   -- input switches set by the halves of their even lines send each line into its half
@@ -54,12 +54,12 @@ module _ (e : ℕ) (p h : ℕ → ℕ) (P : Permutes (2 ^ suc e) p) (H : Halves 
       ]
 
   -- a line is the line of its half at its switch
-  pub lineOf-half : (x : ℕ) → x < 2 ^ suc e → lineOf h (h x) (x / 2) ≡ x
-  lineOf-half x l = omega (arith, half-input (λ j. h (2 * j)) (λ j m. refl) x l)
+  pub lineInto-half : (x : ℕ) → x < 2 ^ suc e → lineInto h (h x) (x / 2) ≡ x
+  lineInto-half x l = omega (arith, half-input (λ j. h (2 * j)) (λ j m. refl) x l)
 
   -- where the inner network of its half has to carry a line
   pub inner-half : (x : ℕ) → x < 2 ^ suc e → inner p h (h x) (x / 2) ≡ p x / 2
-  inner-half x l = ap (λ (z : ℕ). p z / 2) (lineOf-half x l)
+  inner-half x l = ap (λ (z : ℕ). p z / 2) (lineInto-half x l)
 
   -- output switches set by the halves that arrive for their even lines send each line out where p wants it
   pub exit-output : (output : ℕ → ℕ) → ((j : ℕ) → j < 2 ^ e → output j ≡ h (inverse (2 ^ suc e) p (2 * j)))
@@ -96,14 +96,14 @@ module _ (e : ℕ) (p h : ℕ → ℕ) (P : Permutes (2 ^ suc e) p) (H : Halves 
   -- what a half has to perform is a permutation of the inner lines
   pub inner-permutes : (c : ℕ) → c < 2 → Permutes (2 ^ e) (inner p h c)
   inner-permutes c l = record {
-    below = λ j m. omega (arith, P .below (lineOf h c j) (lineOf-below e h c j m));
-    injective = λ i j a b q. apart i j a b (same-switch (p (lineOf h c i)) (p (lineOf h c j)) q);
+    below = λ j m. omega (arith, P .below (lineInto h c j) (lineInto-below e h c j m));
+    injective = λ i j a b q. apart i j a b (same-switch (p (lineInto h c i)) (p (lineInto h c j)) q);
   }
     where
-      apart : (i j : ℕ) → i < 2 ^ e → j < 2 ^ e → (p (lineOf h c j) ≡ p (lineOf h c i)) ⊎ (p (lineOf h c j) ≡ partner (p (lineOf h c i))) → i ≡ j
+      apart : (i j : ℕ) → i < 2 ^ e → j < 2 ^ e → (p (lineInto h c j) ≡ p (lineInto h c i)) ⊎ (p (lineInto h c j) ≡ partner (p (lineInto h c i))) → i ≡ j
       apart i j a b (inl q) =
-          let same : lineOf h c j ≡ lineOf h c i = P .injective (lineOf h c j) (lineOf h c i) (lineOf-below e h c j b) (lineOf-below e h c i a) q in
-          sym (lineOf-switch h c i) ∙ ap (λ (x : ℕ). x / 2) (sym same) ∙ lineOf-switch h c j
+          let same : lineInto h c j ≡ lineInto h c i = P .injective (lineInto h c j) (lineInto h c i) (lineInto-below e h c j b) (lineInto-below e h c i a) q in
+          sym (lineInto-switch h c i) ∙ ap (λ (x : ℕ). x / 2) (sym same) ∙ lineInto-switch h c j
       apart i j a b (inr q) =
-          absurd (H .outputs (lineOf h c i) (lineOf h c j) (lineOf-below e h c i a) (lineOf-below e h c j b) q
-          (half-lineOf c i l a ∙ sym (half-lineOf c j l b)))
+          absurd (H .outputs (lineInto h c i) (lineInto h c j) (lineInto-below e h c i a) (lineInto-below e h c j b) q
+          (half-lineInto c i l a ∙ sym (half-lineInto c j l b)))

@@ -14,13 +14,6 @@ pub mod Unique
 pub mod Performs
 pub mod Carried
 pub mod Examples
--- What the code does, over the lists that it holds.
+-- The widths and sizes, as the code takes them.
 pub mod Depths
 pub mod Sizes
-pub mod Values
-pub mod Walks
-pub mod Painting
-pub mod Wires
-pub mod Outers
-pub mod Fronts
-pub mod Routes

@@ -19,9 +19,6 @@ partner-partner x = omega arith
 pub partner-differs : (x : ℕ) → partner x ≡ x → ⊥
 partner-differs x e = omega arith
 
-pub partner-switch : (x : ℕ) → partner x / 2 ≡ x / 2
-partner-switch x = omega arith
-
 pub partner-injective : (x y : ℕ) → partner x ≡ partner y → x ≡ y
 partner-injective x y e = omega arith
 

@@ -9,8 +9,7 @@ use lib.Pow.{pow-pos}
 use lib.ListN.{length, getD, take, drop}
 use Rattle.laws.specs.Splice.{part}
 use Rattle.network.specs.Network.{bitCount, half, exit, outputBit, leaves}
-use Rattle.network.specs.Calls.{Sized}
-use Rattle.network.specs.inner.Steps.{innerCount}
+use Rattle.network.specs.inner.Sizes.{Sized, innerCount}
 use Rattle.network.proofs.Leaves.{leaves-below, leaves-part, outputBit-listed}
 
 pub record Parted (width count d : ℕ) : Type 0 where
@@ -29,10 +28,6 @@ parted width count (suc e) s f =
     let twice : width ≡ 2 ^ e + 2 ^ e = s .0 ∙ two-pow-succ e in
     let some : 0 < 2 ^ e = pow-pos e in
     record { e = e; deep = refl; half-width = omega arith; inner = omega arith; width-all = omega arith; count-all = omega arith; some = omega arith }
-
--- the sizes of the inner networks
-pub parted-sized : {width count d : ℕ} (S : Parted width count d) → Sized (width / 2) (innerCount width count) (S .e)
-parted-sized S = (S .half-width, S .inner)
 
 -- one line leaves where it is
 pub one-leaves : (d x : ℕ) (bits : ℕ → ℕ) → 1 ≡ 2 ^ d → x ≡ leaves d bits x
@@ -60,16 +55,17 @@ unfolding bitCount
 leaves-level {width} {d} bits S x b o y l eb ey eo =
     let e : ℕ = S .e in
     let h : ℕ = half (λ j. getD bits j 0) x in
+    -- bit i of the half's network
+    let own : ℕ → ℕ = λ i. getD (part (2 ^ e + h * bitCount e) (bitCount e) bits) i 0 in
+    let outs : ℕ → ℕ = outputBit e (λ i. getD bits i 0) in
     let eh : (x + b) % 2 ≡ h = ap (λ (z : ℕ). (x + z) % 2) eb in
     let ew : 2 ^ suc e ≡ width = two-pow-succ e ∙ omega (arith, S .width-all, S .half-width) in
-    let inside : y ≡ leaves e (λ i. getD (part (2 ^ e + h * bitCount e) (bitCount e) bits) i 0) (x / 2) = rw (eh, S .half-width, S .inner) at ey in
-    let below : y < 2 ^ e = rw inside (leaves-below e (λ i. getD (part (2 ^ e + h * bitCount e) (bitCount e) bits) i 0) (x / 2) (omega (arith, S .width-all, S .half-width))) in
+    let inside : y ≡ leaves e own (x / 2) = rw (eh, S .half-width, S .inner) at ey in
+    let below : y < 2 ^ e = rw inside (leaves-below e own (x / 2) (omega (arith, S .width-all, S .half-width))) in
     let long : length bits ≡ bitCount (suc e) = omega (arith, S .count-all, S .half-width, S .inner, S .some) in
-    let out : o ≡ outputBit e (λ i. getD bits i 0) y =
-    eo ∙ rw (S .half-width, S .inner) (sym (outputBit-listed e bits y long below)) in
-    let level : leaves (suc e) (λ i. getD bits i 0) x ≡ exit (outputBit e (λ i. getD bits i 0)) h (leaves e (λ i. getD (part (2 ^ e + h * bitCount e) (bitCount e) bits) i 0) (x / 2)) =
-    leaves-part e bits x (omega (arith, ew)) in
-    rw (eh, out) (ap (exit (outputBit e (λ i. getD bits i 0)) h) inside ∙ sym level ∙ ap (λ (k : ℕ). leaves k (λ i. getD bits i 0) x) (sym (S .deep)))
+    let out : o ≡ outs y = eo ∙ rw (S .half-width, S .inner) (sym (outputBit-listed e bits y long below)) in
+    let level : leaves (suc e) (λ i. getD bits i 0) x ≡ exit outs h (leaves e own (x / 2)) = leaves-part e bits x (omega (arith, ew)) in
+    rw (eh, out) (ap (exit outs h) inside ∙ sym level ∙ ap (λ (k : ℕ). leaves k (λ i. getD bits i 0) x) (sym (S .deep)))
 
 -- more than one line
 pub parted-more : {width count d : ℕ} → Parted width count d → 1 < width

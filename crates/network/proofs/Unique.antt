@@ -16,7 +16,7 @@ use Rattle.network.proofs.Loops.{loop-below, loop-all-or}
 use Rattle.network.proofs.Halves.{halves-partner, halves-companion, halves-ext}
 use Rattle.network.proofs.Levels.{width-even, inner-ext, inner-permutes}
 use Rattle.network.proofs.Arranged.{arranged-ext}
-use Rattle.network.proofs.Exists.{chosen-halves, setting-rule}
+use Rattle.network.proofs.Exists.{chosen-halves, level-rule, setting-rule}
 
 module _ (n : ℕ) (p : ℕ → ℕ) (P : Permutes n p) (even : n % 2 ≡ 0) (h g : ℕ → ℕ) (H : Halves n p h) (G : Halves n p g) where
   -- where they agree at a line of the loop of x, they agree at x
@@ -105,15 +105,8 @@ rule-setting d p bits P R = rule-unique d p bits (setting d p) P R (setting-rule
 pub setting-level : (e : ℕ) (p h : ℕ → ℕ) → Permutes (2 ^ suc e) p → Halves (2 ^ suc e) p h
     → setting (suc e) p ≡ arranged e p h (setting e (inner p h 0)) (setting e (inner p h 1))
 setting-level e p h P H =
-    sym (rule-setting (suc e) p (arranged e p h (setting e (inner p h 0)) (setting e (inner p h 1))) P (
-      h,
-      setting e (inner p h 0),
-      setting e (inner p h 1),
-      H,
-      setting-rule e (inner p h 0) (inner-permutes e p h P H 0 (omega arith)),
-      setting-rule e (inner p h 1) (inner-permutes e p h P H 1 (omega arith)),
-      refl,
-    ))
+    sym (rule-setting (suc e) p (arranged e p h (setting e (inner p h 0)) (setting e (inner p h 1))) P
+    (level-rule e p h P H (setting-rule e)))
 
 -- settings for maps that agree below 2 ^ d
 pub setting-ext : (d : ℕ) (p q : ℕ → ℕ) → Permutes (2 ^ d) p → ((x : ℕ) → x < 2 ^ d → p x ≡ q x) → setting d p ≡ setting d q

@@ -1,12 +1,17 @@
 -- The permutation network (document 01: switch network) of 2 ^ d lines: its switches, its bits, and what it does to a line.
 -- Half 0 is the upper inner network, half 1 the lower.
 use Prim.Native.Nat.{ℕ, zero, suc, _+_, _*_, _-_, _/_, _%_, _^_}
-use Rattle.laws.specs.Choice.{ifLt}
+use Rattle.laws.specs.Choice.{ifLt, ifEq}
 
 -- the switch bits of a network 2 ^ d wide (document 01: B): input switches, two inner networks, output switches but the last
 unfoldable pub bitCount : ℕ → ℕ
 bitCount zero = 0
 bitCount (suc e) = 2 ^ e + (bitCount e + bitCount e) + (2 ^ e - 1)
+
+-- d where the width is 2 ^ d and d at most 6, else 7: a network is 1, 2, 4, 8, 16, 32 or 64 lines wide
+unfoldable pub depthOf : ℕ → ℕ
+depthOf width =
+    ifEq width 1 0 (ifEq width 2 1 (ifEq width 4 2 (ifEq width 8 3 (ifEq width 16 4 (ifEq width 32 5 (ifEq width 64 6 7))))))
 
 -- the other line of the same switch: switch j has the lines 2j and 2j + 1
 abbrev pub partner : ℕ → ℕ

@@ -25,11 +25,11 @@ pub record Halves (n : ℕ) (p h : ℕ → ℕ) : Type 0 where
   pub lowest : (x : ℕ) → x < n → x % 2 ≡ 0 → ((y : ℕ) → Loop n p x y → p y ≡ n - 1 → ⊥) → ((y : ℕ) → Loop n p x y → x / 2 ≤ y / 2) → h x ≡ 0
 
 -- the line of input switch j that takes half c, and the permutation of the inner lines that the half c has to perform
-abbrev pub lineOf : (ℕ → ℕ) → ℕ → ℕ → ℕ
-lineOf h c j = 2 * j + (c + h (2 * j)) % 2
+abbrev pub lineInto : (ℕ → ℕ) → ℕ → ℕ → ℕ
+lineInto h c j = 2 * j + (c + h (2 * j)) % 2
 
 abbrev pub inner : (ℕ → ℕ) → (ℕ → ℕ) → ℕ → ℕ → ℕ
-inner p h c j = p (lineOf h c j) / 2
+inner p h c j = p (lineInto h c j) / 2
 
 -- the bits of a network 2 ^ (e + 1) wide in order. A switch is crossed (1) where the line 2j enters, or leaves, the lower half
 abbrev pub arranged : ℕ → (ℕ → ℕ) → (ℕ → ℕ) → List ℕ → List ℕ → List ℕ

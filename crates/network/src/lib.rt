@@ -1,13 +1,9 @@
-// The permutation network of up to 64 lines: setting it for a permutation, following a line, sending all lines through it.
-mod following;
-mod routing;
-mod setting;
+// The permutation network of up to 64 lines: its widths, and the small functions that those who set it or send lines through it share.
+// Only our own crates call them, so they may have a `requires`.
 mod widths;
 
-pub use following::Followed;
-pub use following::follow;
-pub use routing::route;
-pub use setting::Setting;
-pub use setting::set;
-pub use setting::set_bits;
 pub use widths::bit_count;
+pub use widths::depth_of;
+pub use widths::partner_of;
+pub use widths::value_at;
+pub use widths::wide;

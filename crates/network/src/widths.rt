@@ -1,9 +1,8 @@
-// The widths of a network, and the sizes that go with them.
+// The widths of a network, and the sizes that go with them. Only our own crates call these functions.
 ghost use mathlib.Core.Path.{_≡_};
 ghost use Prim.Native.Nat.{_+_, _*_, _-_, _%_, _<_, _≤_};
 ghost use lib.ListN.{getD};
-ghost use Rattle.network.specs.Network.{bitCount, partner};
-ghost use Rattle.network.specs.Calls.{depthOf};
+ghost use Rattle.network.specs.Network.{bitCount, partner, depthOf};
 
 // The depth d of a network of 2^d lines, and 7 where the width is not 1, 2, 4, 8, 16, 32 or 64.
 pub fn depth_of(width: usize) -> usize
@@ -21,7 +20,7 @@ pub fn depth_of(width: usize) -> usize
     }
 }
 
-// The switch bits of a network of 2^depth lines. Only our own crates call it, with a depth of a network.
+// The switch bits of a network of 2^depth lines. It is called with a depth of a network.
 pub fn bit_count(depth: usize) -> usize
     requires { ⌜ depth ≤ 6 ⌝ }
     ensures { λ r. ⌜ r ≡ bitCount depth ⌝ }
@@ -55,7 +54,7 @@ pub fn wide(x: u8) -> usize
     x as usize
 }
 
-// The other line of the same switch. Only this crate calls it.
+// The other line of the same switch.
 pub fn partner_of(line: usize) -> usize
     requires { ⌜ line < 256 ⌝ }
     ensures { λ r. ⌜ r ≡ partner line ⌝ }

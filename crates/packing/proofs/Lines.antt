@@ -9,7 +9,7 @@ use Rattle.limits.specs.Limits.{mostWidth, mostSwitches}
 use Rattle.laws.specs.Permutation.{Permutes}
 use Rattle.laws.proofs.Permutations.{permutes-ext}
 use Rattle.network.specs.Setting.{setting}
-use Rattle.network.specs.Calls.{Sized}
+use Rattle.network.specs.inner.Sizes.{Sized}
 use Rattle.network.proofs.Performs.{length-setting, setting-bit}
 use Rattle.network.proofs.Unique.{setting-ext}
 use Rattle.tables.specs.Terms.{Dims, cycles, depth, switchBits, addressBits, addressRow, lineBits}

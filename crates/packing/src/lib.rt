@@ -6,8 +6,8 @@ ghost use Rattle.limits.specs.Limits.{mostWords, mostWidth, mostSwitches};
 ghost use Rattle.laws.specs.Permutation.{Injective};
 ghost use Rattle.images.specs.Images.{orderOf};
 ghost use Rattle.network.specs.Setting.{setting};
-ghost use Rattle.network.specs.inner.Steps.{Inverses};
-ghost use Rattle.network.specs.Calls.{Sized};
+ghost use Rattle.setting.specs.inner.Steps.{Inverses};
+ghost use Rattle.network.specs.inner.Sizes.{Sized};
 ghost use Rattle.bits.specs.inner.Writing.{Open, positionOf, wholeOf};
 ghost use Rattle.tables.specs.Header.{headerOf, headerBits};
 ghost use Rattle.tables.specs.Terms.{cycles, depth, fileLength};
@@ -131,7 +131,7 @@ fn set_switches(forward: &[u8], back: &[u8], switches: &mut [u8], count: usize)
     requires { ⌜ (length (now forward) ≤ mostWidth) × (count ≤ mostSwitches) × Inverses (now forward) (now back) × (length (now switches) ≡ mostSwitches) ⌝ }
     ensures { λ _. ⌜ (length (now (switches .exit)) ≡ mostSwitches) × ((d : ℕ) → Sized (length (now (forward .entry))) count d → take count (now (switches .exit)) ≡ setting d (λ i. getD (now (forward .entry)) i 0)) ⌝ }
 {
-    network::set_bits(forward, back, &mut switches[..count]);
+    setting::set_bits(forward, back, &mut switches[..count]);
 }
 
 // The bits of a line's network, which are set in `switches` before they are packed. A network of one line has none.

@@ -16,9 +16,9 @@ use Rattle.refusal.specs.declared.Refusal.{Refusal}
 use Rattle.images.specs.Images.{checkOf, orderOf}
 use Rattle.images.specs.declared.Checked.{Checked}
 use Rattle.images.specs.declared.Checked.the-variants.{Permutation, Refused as Unfit}
-use Rattle.network.specs.Network.{bitCount}
+use Rattle.network.specs.Network.{bitCount, depthOf}
 use Rattle.network.specs.Setting.{setting}
-use Rattle.network.specs.Calls.{depthOf, Outcome, outcome, written, setOf}
+use Rattle.setting.specs.Calls.{settledOf, SetOutcome, setOutcome, written, settingOf}
 use Rattle.tables.specs.Terms.{Dims, cycles, fileLength}
 use Rattle.tables.specs.Header.{headerWords, headerWidth}
 use Rattle.tables.specs.Format.{shapeOf, openOf}
@@ -43,7 +43,7 @@ use Rattle.machine.specs.declared.Clock.{Clock}
 use Rattle.machine.specs.declared.Stepped.{Stepped}
 use Rattle.machine.specs.declared.Stepped.the-variants.{Filling, Wrote, Refused as Unstepped}
 use Rattle.machine.proofs.Effects.{length-entering, entering-behind, length-moving, moving-behind}
-use Rattle.network.specs.declared.setting.Setting.the-variants.{Written, Refused as Unset}
+use Rattle.setting.specs.declared.Setting.the-variants.{Written, Refused as Unset}
 
 -- after a call only the first k words of a list may differ
 pub record Only (k : ℕ) (before after : List ℕ) : Type 0 where
@@ -57,10 +57,10 @@ pub only-overwrite : (k : ℕ) (f : ℕ → ℕ) (xs : List ℕ) → k ≤ lengt
 only-overwrite k f xs l = record { long = length-overwrite k f xs l; behind = λ i m. getD-overwrite-past k f xs i 0 m }
 
 -- setting a network
-pub SetLends : ℕ → List ℕ → Outcome → Type 0
+pub SetLends : ℕ → List ℕ → SetOutcome → Type 0
 SetLends width values o =
-    ((r : Refusal) × (o ≡ outcome (Unset r) values))
-    ⊎ ((after : List ℕ) × (o ≡ outcome (Written (bitCount (depthOf width))) after) × Only (bitCount (depthOf width)) values after)
+    ((r : Refusal) × (o ≡ setOutcome (Unset r) values))
+    ⊎ ((after : List ℕ) × (o ≡ setOutcome (Written (settledOf (depthOf width))) after) × Only (bitCount (depthOf width)) values after)
 
 set-written : (width : ℕ) (images values : List ℕ) (x : Checked) → bitCount (depthOf width) ≤ length values
     → SetLends width values (written x (depthOf width) images values)
@@ -69,8 +69,8 @@ set-written width images values (Unfit r) l = inl (r, refl)
 set-written width images values Permutation l =
     inr (_, refl, only-overwrite (bitCount (depthOf width)) (λ i. getD (setting (depthOf width) (λ x. getD images x 0)) i 0) values l)
 
-pub set-lends : (width : ℕ) (images values : List ℕ) → SetLends width values (setOf width images values)
-unfolding SetLends setOf
+pub set-lends : (width : ℕ) (images values : List ℕ) → SetLends width values (settingOf width images values)
+unfolding SetLends settingOf
 set-lends width images values =
     ifLt-cases (SetLends width values) 6 (depthOf width) _ _ (λ _. inl (_, refl)) λ _.
     ifLt-cases (SetLends width values) (length images) width _ _ (λ _. inl (_, refl)) λ _.

@@ -6,10 +6,10 @@ use Rattle.refusal.specs.Refusals.{numberOf, placeOf}
 use Rattle.refusal.specs.declared.Refusal.{Refusal}
 use Rattle.generator.specs.declared.Generation.{Generation}
 use Rattle.generator.specs.declared.Generation.the-variants.{Written, Refused as Unmade}
-use Rattle.network.specs.declared.following.Followed.{Followed}
-use Rattle.network.specs.declared.following.Followed.the-variants.{Line, Refused as Unfollowed}
-use Rattle.network.specs.declared.setting.Setting.{Setting}
-use Rattle.network.specs.declared.setting.Setting.the-variants.{Written as Set, Refused as Unset}
+use Rattle.passing.specs.declared.following.Followed.{Followed}
+use Rattle.passing.specs.declared.following.Followed.the-variants.{Line, Refused as Unfollowed}
+use Rattle.setting.specs.declared.Setting.{Setting}
+use Rattle.setting.specs.declared.Setting.the-variants.{Written as Set, Refused as Unset}
 use Rattle.tables.specs.declared.Reading.{Reading}
 use Rattle.tables.specs.declared.Reading.the-variants.{Read, Refused as Unread}
 use Rattle.machine.specs.declared.Clock.{Clock}
@@ -29,12 +29,12 @@ generationAnswer (Unmade r) = refusalAnswer r
 
 -- setting a network: B
 unfoldable pub settingAnswer : Setting → Answer
-settingAnswer (Set count) = record { number = 0; value = count }
+settingAnswer (Set settled) = record { number = 0; value = settled .count }
 settingAnswer (Unset r) = refusalAnswer r
 
 -- following a line: the line on which it leaves
 unfoldable pub lineAnswer : Followed → Answer
-lineAnswer (Line line) = record { number = 0; value = line }
+lineAnswer (Line passage) = record { number = 0; value = passage .line }
 lineAnswer (Unfollowed r) = refusalAnswer r
 
 -- reading: n and w

@@ -7,9 +7,9 @@ use crate::ReadAnswer;
 use generator::Generation;
 use machine::Clock;
 use machine::Stepped;
-use network::Followed;
-use network::Setting;
+use passing::Followed;
 use refusal::Refusal;
+use setting::Setting;
 use tables::Reading;
 
 // A refusal's number and place.
@@ -42,9 +42,9 @@ pub fn of_setting(core: Setting) -> Answer
     ensures { λ r. ⌜ r ≡ settingAnswer core ⌝ }
 {
     match core {
-        Setting::Written(count) => Answer {
+        Setting::Written(settled) => Answer {
             number: 0,
-            value: count,
+            value: settled.count,
         },
         Setting::Refused(refusal) => of_refusal(refusal),
     }
@@ -55,9 +55,9 @@ pub fn of_line(core: Followed) -> Answer
     ensures { λ r. ⌜ r ≡ lineAnswer core ⌝ }
 {
     match core {
-        Followed::Line(line) => Answer {
+        Followed::Line(passage) => Answer {
             number: 0,
-            value: line,
+            value: passage.line,
         },
         Followed::Refused(refusal) => of_refusal(refusal),
     }

@@ -1,8 +1,9 @@
 // The calls for C and Rust. Each takes a slice as a pointer and a length, calls the crate that does the work and gives its answer
 // as integers. A contract says that the core's contract holds of some answer, and that this answer is the one given.
 ghost use mathlib.Core.Path.{_≡_};
-ghost use Rattle.network.specs.Calls.{followOf, setOf, outcome as settingOutcome};
-ghost use Rattle.network.specs.declared.setting.Setting.{Setting};
+ghost use Rattle.passing.specs.Calls.{followOf};
+ghost use Rattle.setting.specs.Calls.{settingOf, setOutcome};
+ghost use Rattle.setting.specs.declared.Setting.{Setting};
 ghost use Rattle.tables.specs.Reading.{readOf, readOutcome};
 ghost use Rattle.tables.specs.declared.Reading.{Reading};
 ghost use Rattle.generator.specs.Generating.{Generates};
@@ -17,8 +18,8 @@ mod answers;
 use generator::generate;
 use machine::Clock;
 use machine::step;
-use network::follow;
-use network::set;
+use passing::follow;
+use setting::set;
 use tables::read;
 
 // An accepted call has number 0 and its value, a refused one the refusal's number and place.
@@ -62,7 +63,7 @@ pub extern "C" fn rughtena_read(file: &[u8], images: &mut [u16], scratch: &[u16]
 // Setting a network; the value is B.
 #[no_mangle]
 pub extern "C" fn rughtena_set(width: usize, images: &[u16], values: &mut [u8]) -> Answer
-    ensures { λ r. ⌜ ((core : Setting) × (r ≡ settingAnswer core) × (settingOutcome core (now (values .exit)) ≡ setOf width (now (images .entry)) (now (values .entry)))) ⌝ }
+    ensures { λ r. ⌜ ((core : Setting) × (r ≡ settingAnswer core) × (setOutcome core (now (values .exit)) ≡ settingOf width (now (images .entry)) (now (values .entry)))) ⌝ }
 {
     answers::of_setting(set(width, images, values))
 }

@@ -10,7 +10,8 @@ use lib.Seq.{length-take-le, getD-take}
 use Rattle.limits.specs.Limits.{mostWidth, mostSwitches}
 use Rattle.bits.specs.Bits.{bit}
 use Rattle.network.specs.Network.{bitCount, leaves}
-use Rattle.network.specs.Calls.{Sized, Routed}
+use Rattle.network.specs.inner.Sizes.{Sized}
+use Rattle.passing.specs.inner.Steps.{Routed}
 use Rattle.network.proofs.Leaves.{leaves-ext, leaves-below}
 use Rattle.tables.specs.Terms.{Dims, cycles, depth, switchBits, addressRow}
 use Rattle.tables.specs.Format.{lineAt, shapeOf}

@@ -5,7 +5,7 @@ ghost use lib.Dec.{leb};
 ghost use lib.ListN.{length, getD};
 ghost use Rattle.limits.specs.Limits.{mostWidth, mostSwitches};
 ghost use Rattle.laws.specs.Any.{any};
-ghost use Rattle.network.specs.Calls.{Sized};
+ghost use Rattle.network.specs.inner.Sizes.{Sized};
 ghost use Rattle.tables.specs.Terms.{cycles};
 ghost use Rattle.tables.specs.Format.{Shaped};
 ghost use Rattle.tables.specs.inner.Lines.{Addresses, Spread, Switches, Sources, Line, spareUsed};
@@ -81,7 +81,7 @@ fn sources(
         return;
     }
     switches(file, at, count, setting);
-    network::route(&setting[..count], &mut standing[..lines]);
+    passing::route(&setting[..count], &mut standing[..lines]);
 }
 
 // What line t of a set does: the address that each bank of the first memory reads, the line that leaves the network on each line, and the

@@ -6,7 +6,7 @@ use native.Mathlib.Omega.{arith}
 use lib.ListN.{length, take}
 use lib.Seq.{length-take-le}
 use Rattle.bits.specs.inner.Writing.{positionOf, wholeOf}
-use Rattle.network.specs.inner.Steps.{Inverses}
+use Rattle.setting.specs.inner.Steps.{Inverses}
 use Rattle.tables.proofs.Opens.{shape-same}
 use Rattle.tables.proofs.Passes.{line-sized}
 use Rattle.packing.specs.Packing.{putFields}

@@ -4,7 +4,7 @@ use mathlib.Core.Path.{_≡_}
 use mathlib.Core.List.{List}
 use lib.ListN.{length, getD, take}
 use Rattle.limits.specs.Limits.{mostWidth}
-use Rattle.network.specs.inner.Steps.{Inverses}
+use Rattle.setting.specs.inner.Steps.{Inverses}
 use Rattle.tables.specs.Terms.{cycles, depth}
 
 -- the arrays of a line's plan: a line of the network that is no bank's goes straight through

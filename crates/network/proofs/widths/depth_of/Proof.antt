@@ -2,7 +2,7 @@
 use borrow.Author.Needs.{needs}
 use Rattle.laws.specs.Choice.{ifEq}
 use Rattle.laws.proofs.Choices.{cases}
-use Rattle.network.specs.Calls.{depthOf}
+use Rattle.network.specs.Network.{depthOf}
 use Rattle.network.proofs.widths.depth_of.Statement.{statement}
 use Rattle.network.proofs.widths.depth_of.Tie as tie
 
