@@ -1,26 +1,27 @@
 -- The clock counts accepted steps: after f whole frames and t cycles of the next one it is (t, f % 2, min f 2), and an accepted step counts
--- one on. So it never leaves its ranges.
+-- one on.
 use Prim.Native.Nat.{ℕ, _+_, _-_, _%_, _<_, _≤_, min}
 use mathlib.Core.Path.{_≡_, refl, sym, ap₂}
+use mathlib.Core.List.{List}
 use native.Mathlib.Omega.{arith}
-use Rattle.laws.specs.Choice.{ifLt}
 use Rattle.laws.proofs.Choices.{ifLt-yes, ifLt-no, ifLt-cases}
-use Rattle.machine.specs.Step.{nextClock}
+use Rattle.tables.specs.Terms.{cycles}
+use Rattle.machine.specs.Step.{nextFrame, nextClock, advanceOf, saysOf}
 use Rattle.machine.specs.Machine.{clockAfter}
 use Rattle.machine.specs.declared.Clock.{Clock}
 use Rattle.machine.specs.declared.Stepped.{Stepped}
-use Rattle.machine.specs.declared.Stepped.the-variants.{Filling, Wrote}
+use Rattle.machine.specs.inner.Ready.{InRange}
 
 -- the clock after f whole frames and t cycles of the next one
 abbrev pub clockAt : ℕ → ℕ → Clock
 clockAt f t = record { cycle = t; half = f % 2; fill = min f 2 }
 
 pub clock-next : (c f t : ℕ) → t + 1 < c → nextClock c (clockAt f t) ≡ clockAt f (t + 1)
-unfolding nextClock
+unfolding nextClock nextFrame
 clock-next c f t l = sym (ifLt-yes (t + 1) c _ _ _ l refl)
 
 pub clock-turns : (c f t : ℕ) → c ≤ t + 1 → nextClock c (clockAt f t) ≡ clockAt (f + 1) 0
-unfolding nextClock
+unfolding nextClock nextFrame
 clock-turns c f t l = sym (ifLt-no (t + 1) c _ _ _ l (ap₂ turned flips fills))
   where
     turned : ℕ → ℕ → Clock
@@ -33,22 +34,10 @@ clock-turns c f t l = sym (ifLt-no (t + 1) c _ _ _ l (ap₂ turned flips fills))
     fills = omega arith
 
 -- an accepted step leaves the clock that it returns, whatever it says
-pub clock-after : (fill : ℕ) (next clock : Clock) → clockAfter (ifLt fill 2 (Filling next) (Wrote next)) clock ≡ next
-unfolding clockAfter
-clock-after fill next clock =
-    ifLt-cases (λ (a : Stepped). clockAfter a clock ≡ next) fill 2 (Filling next) (Wrote next) (λ _. refl) (λ _. refl)
-
--- the clock's ranges: t of 0 to c-1, h of 0 or 1, fill of 0 to 2
-pub record InRange (c : ℕ) (clock : Clock) : Type 0 where
-  pub cycle : clock .cycle < c
-  pub half : clock .half < 2
-  pub fill : clock .fill ≤ 2
+pub clock-after : (n w : ℕ) (file : List ℕ) (clock : Clock) → clockAfter (saysOf n w file clock) clock ≡ nextClock (cycles n w) clock
+unfolding clockAfter saysOf advanceOf
+clock-after n w file clock =
+    ifLt-cases (λ (a : Stepped). clockAfter a clock ≡ nextClock (cycles n w) clock) (clock .fill) 2 _ _ (λ _. refl) (λ _. refl)
 
 pub clockAt-in-range : {c t : ℕ} (f : ℕ) → t < c → InRange c (clockAt f t)
 clockAt-in-range f l = record { cycle = l; half = omega arith; fill = omega arith }
-
-pub next-in-range : {c : ℕ} {clock : Clock} → InRange c clock → InRange c (nextClock c clock)
-unfolding nextClock
-next-in-range {c} {clock} G =
-    ifLt-cases (InRange c) (clock .cycle + 1) c _ _ (λ l. record { cycle = l; half = G .half; fill = G .fill })
-    (λ l. record { cycle = omega arith; half = omega arith; fill = omega arith })

@@ -4,7 +4,7 @@ use Prim.Native.Nat.{ℕ}
 use mathlib.Core.Path.{_≡_, refl, ap, _∙_}
 use mathlib.Core.List.{List}
 use Rattle.machine.specs.Devices.{Feed, feed, run}
-use Rattle.machine.specs.Step.{Outcome, outcome, stepOf}
+use Rattle.machine.specs.Step.{StepOutcome, stepOutcome, stepOf}
 use Rattle.machine.specs.Machine.{Card, carded, clockAfter, machine}
 use Rattle.machine.specs.LentClock.{lent, clocked, lentStep, lentCarded, lentMachine}
 use Rattle.machine.specs.declared.Clock.{Clock}
@@ -12,15 +12,15 @@ use Rattle.machine.specs.declared.Stepped.{Stepped}
 
 pub lent-says : (file : List ℕ) (clock : Clock) (first second words out : List ℕ)
     → {answer : Stepped} {clock′ : Clock} {first′ second′ out′ : List ℕ}
-    → outcome answer first′ second′ out′ ≡ stepOf file clock first second words out → clock′ ≡ clockAfter answer clock
+    → stepOutcome answer first′ second′ out′ ≡ stepOf file clock first second words out → clock′ ≡ clockAfter answer clock
     → lent answer clock′ first′ second′ out′ ≡ lentStep file clock first second words out
 unfolding lentStep clocked
 lent-says file clock first second words out {answer} {clock′} {first′} {second′} {out′} stepped left =
-    ap (λ (c : Clock). lent answer c first′ second′ out′) left ∙ ap (λ (o : Outcome). clocked o clock) stepped
+    ap (λ (c : Clock). lent answer c first′ second′ out′) left ∙ ap (λ (o : StepOutcome). clocked o clock) stepped
 
-lentCarded-clocked : (o : Outcome) (clock : Clock) → lentCarded (clocked o clock) ≡ carded o clock
+lentCarded-clocked : (o : StepOutcome) (clock : Clock) → lentCarded (clocked o clock) ≡ carded o clock
 unfolding lentCarded clocked carded
-lentCarded-clocked (outcome answer first second out) clock = refl
+lentCarded-clocked (stepOutcome answer first second out) clock = refl
 
 pub lent-machine : (file : List ℕ) (card : Card) (x : Feed) → lentMachine file card x ≡ machine file card x
 unfolding lentMachine machine lentStep

@@ -6,7 +6,7 @@ pub mod Cases
 pub mod NeverMeet
 pub mod Indexes
 pub mod Takes
-pub mod LineTests
+pub mod Tests
 pub mod Runs
 pub mod Lines
 pub mod Frames

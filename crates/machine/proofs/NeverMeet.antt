@@ -14,7 +14,7 @@ use Rattle.tables.specs.Datapath.{carriedTo}
 use Rattle.tables.specs.declared.Opened.the-variants.{Set}
 use Rattle.tables.proofs.Targets.{carriedTo-injective}
 use Rattle.tables.proofs.Within.{Within}
-use Rattle.machine.specs.Step.{leaving, moving, entering, outcome, stepOf}
+use Rattle.machine.specs.Step.{leaving, moving, entering, stepOutcome, stepOf}
 use Rattle.machine.specs.declared.Clock.{Clock}
 use Rattle.machine.specs.declared.Stepped.the-variants.{Refused}
 use Rattle.machine.proofs.Spots.{bankOf, halfOf, bankOf-spot, halfOf-spot}
@@ -137,7 +137,7 @@ module _ (n w : ℕ) (file : List ℕ) (clock : Clock) where
 
 -- so it is in every step that is not refused, on any set, where a line moves
 pub step-never-meets : {n w : ℕ} (file : List ℕ) (clock : Clock) (first second words out : List ℕ) → openOf file ≡ Set (shapeOf n w)
-    → ((r : Refusal) → stepOf file clock first second words out ≡ outcome (Refused r) first second out → ⊥) → 1 ≤ clock .fill
+    → ((r : Refusal) → stepOf file clock first second words out ≡ stepOutcome (Refused r) first second out → ⊥) → 1 ≤ clock .fill
     → NeverMeet n w file clock
 step-never-meets {n} {w} file clock first second words out opened taken some =
     let T = step-passed file clock first second words out opened taken in

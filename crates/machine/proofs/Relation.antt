@@ -1,6 +1,7 @@
 -- The relation between the cycle machine and the plain rule, and an accepted step of both. After s accepted steps, with f = s / c frames
 -- whole and t = s % c, the clock is (t, f % 2, min f 2), the row has s·w words, and the memories hold the frames as `Held` says. In an
--- accepted step both devices show the same, since the words that leave are those of frame f-2 at the places t·w to t·w + w-1.
+-- accepted step both devices show the same, since the words that leave are those of frame f-2 at the places t·w to t·w + w-1. Here every
+-- frame has the same file and the same order.
 use Prim.Native.Nat.{ℕ, _+_, _*_, _-_, _<_, _≤_, min}
 use mathlib.Core.Path.{_≡_, refl, sym, ap, ap₂, _∙_}
 use mathlib.Core.List.{List, _++_}
@@ -9,8 +10,7 @@ use native.Mathlib.Decide.{decLt}
 use native.Mathlib.Nat.{add-mul, one-mul, zero-mul, mul-assoc}
 use lib.Arith.{digits-lt}
 use lib.ListN.{length, length-append, List·getD-append}
-use Rattle.laws.specs.Choice.{ifLt}
-use Rattle.laws.specs.Permutation.{inverse}
+use Rattle.laws.specs.Permutation.{Permutes, inverse}
 use Rattle.laws.proofs.Choices.{ifLt-yes, ifLt-no}
 use Rattle.laws.proofs.Tabulates.{overwrite-ext}
 use Rattle.laws.proofs.Permutations.{inverse-below, inverse-right}
@@ -18,11 +18,10 @@ use Rattle.tables.specs.Terms.{cycles}
 use Rattle.tables.specs.Datapath.{Performs}
 use Rattle.tables.proofs.Dims.{Dims, cycles-mul, cycles-positive, word-below}
 use Rattle.machine.specs.Devices.{seen, filling, wrote}
-use Rattle.machine.specs.Step.{fresh, nextClock, leaving, entering, accepted}
+use Rattle.machine.specs.Step.{fresh, leaving, entering, saysOf, accepted}
 use Rattle.machine.specs.Machine.{Card, said, carded}
 use Rattle.machine.specs.Plain.{Row, empty, given, took}
 use Rattle.machine.specs.declared.Clock.{Clock}
-use Rattle.machine.specs.declared.Stepped.the-variants.{Filling, Wrote}
 use Rattle.machine.proofs.Effects.{length-entering}
 use Rattle.machine.proofs.Runs.{Agree}
 use Rattle.machine.proofs.Given.{given-word}
@@ -39,17 +38,46 @@ pub record Related (n w : ℕ) (file : List ℕ) (p : ℕ → ℕ) (card : Card)
   pub joined : length (row .words) ≡ f * n + t * w
   pub first-long : 2 * n ≤ length (card .first)
   pub second-long : 2 * n ≤ length (card .second)
-  pub held : Held n w file p f t (card .first) (card .second) (row .words)
+  pub held : Held n w (λ _. file) (λ _. p) f t (card .first) (card .second) (row .words)
 
 -- ---- what an accepted step says
 
-said-filling : (fill : ℕ) (next : Clock) → fill < 2 → said (ifLt fill 2 (Filling next) (Wrote next)) ≡ filling
-unfolding said
-said-filling fill next l = ap said (sym (ifLt-yes fill 2 (Filling next) (Filling next) (Wrote next) l refl))
+module _ (n w : ℕ) (file : List ℕ) (clock : Clock) where
+  said-filling : clock .fill < 2 → said (saysOf n w file clock) ≡ filling
+  unfolding said saysOf
+  said-filling l = ap said (sym (ifLt-yes (clock .fill) 2 _ _ _ l refl))
 
-said-wrote : (fill : ℕ) (next : Clock) → 2 ≤ fill → said (ifLt fill 2 (Filling next) (Wrote next)) ≡ wrote
-unfolding said
-said-wrote fill next l = ap said (sym (ifLt-no fill 2 (Wrote next) (Filling next) (Wrote next) l refl))
+  said-wrote : 2 ≤ clock .fill → said (saysOf n w file clock) ≡ wrote
+  unfolding said saysOf
+  said-wrote l = ap said (sym (ifLt-no (clock .fill) 2 _ _ _ l refl))
+
+module _ {n w : ℕ} (files : ℕ → List ℕ) (orders : ℕ → ℕ → ℕ) (D : Dims n w) where
+  -- ---- the words that leave, each frame by its own order
+
+  module _ (f t s : ℕ) (inside : t < cycles n w) (steps : s ≡ f * cycles n w + t) (first second row words : List ℕ)
+      (joined : length row ≡ f * n + t * w) (H : Held n w files orders f t first second row) where
+    -- the place of the word that leaves at port k
+    place-is : (g : ℕ) → f ≡ g + 2 → (k : ℕ) → (s - 2 * cycles n w) * w + k ≡ g * n + (t * w + k)
+    place-is g e k =
+        let two : (g + 2) * cycles n w ≡ g * cycles n w + 2 * cycles n w = add-mul g 2 (cycles n w) in
+        let past : s - 2 * cycles n w ≡ g * cycles n w + t = omega (arith, ap (λ (z : ℕ). z * cycles n w) e) in
+        let whole : g * cycles n w * w ≡ g * n = mul-assoc g (cycles n w) w ∙ ap (λ (z : ℕ). g * z) (cycles-mul D) in
+        rw past (omega (arith, add-mul (g * cycles n w) t w))
+
+    pub leaves-given : (g : ℕ) → f ≡ g + 2 → Permutes n (orders g) → (k : ℕ) → k < w
+        → leaving (cycles n w) (clockAt f t) second k ≡ given n w (orders g) s (row ++ words) k
+    unfolding leaving
+    leaves-given g e P k l =
+        let p : ℕ → ℕ = orders g in
+        let j : ℕ = t * w + k in
+        let below : j < n = word-below D t k inside l in
+        let i : ℕ = inverse n p j in
+        let word : i < n = inverse-below n p P j below in
+        let before : g * n + i < f * n = digits-lt (omega arith) word in
+        let place : g * n + p i ≡ (s - 2 * cycles n w) * w + k =
+        ap (λ (z : ℕ). g * n + z) (inverse-right n p P j below) ∙ sym (place-is g e k) in
+        H .permuted g e k t l inside ∙ sym (List·getD-append row words 0 (g * n + i) (omega arith))
+        ∙ sym (given-word P w s (row ++ words) k g i word place)
 
 module _ {n w : ℕ} {file : List ℕ} {p : ℕ → ℕ} (D : Dims n w) (P : Performs n w file p) where
   abbrev c : ℕ
@@ -69,34 +97,13 @@ module _ {n w : ℕ} {file : List ℕ} {p : ℕ → ℕ} (D : Dims n w) (P : Per
     joined = omega (arith, zero-mul n, zero-mul w);
     first-long = long;
     second-long = long′;
-    held = held-empty D P first second;
+    held = held-empty (λ _. file) (λ _. p) D first second;
   }
 
   -- ---- an accepted step
 
   module _ (f t s : ℕ) (inside : t < c) (steps : s ≡ f * c + t) (first second row words : List ℕ) (long : 2 * n ≤ length first)
-      (long′ : 2 * n ≤ length second) (joined : length row ≡ f * n + t * w) (H : Held n w file p f t first second row) where
-    -- the place of the word that leaves at port k
-    place-is : (g : ℕ) → f ≡ g + 2 → (k : ℕ) → (s - 2 * c) * w + k ≡ g * n + (t * w + k)
-    place-is g e k =
-        let two : (g + 2) * c ≡ g * c + 2 * c = add-mul g 2 c in
-        let past : s - 2 * c ≡ g * c + t = omega (arith, ap (λ (z : ℕ). z * c) e) in
-        let whole : g * c * w ≡ g * n = mul-assoc g c w ∙ ap (λ (z : ℕ). g * z) (cycles-mul D) in
-        rw past (omega (arith, add-mul (g * c) t w))
-
-    leaves-given : (g : ℕ) → f ≡ g + 2 → (k : ℕ) → k < w → leaving c (clockAt f t) second k ≡ given n w p s (row ++ words) k
-    unfolding leaving
-    leaves-given g e k l =
-        let j : ℕ = t * w + k in
-        let below : j < n = word-below D t k inside l in
-        let i : ℕ = inverse n p j in
-        let word : i < n = inverse-below n p (P .permutes) j below in
-        let before : g * n + i < f * n = digits-lt (omega arith) word in
-        let place : g * n + p i ≡ (s - 2 * c) * w + k =
-        ap (λ (z : ℕ). g * n + z) (inverse-right n p (P .permutes) j below) ∙ sym (place-is g e k) in
-        H .permuted g e k t l inside ∙ sym (List·getD-append row words 0 (g * n + i) (omega arith))
-        ∙ sym (given-word (P .permutes) w s (row ++ words) k g i word place)
-
+      (long′ : 2 * n ≤ length second) (joined : length row ≡ f * n + t * w) (H : Held n w (λ _. file) (λ _. p) f t first second row) where
     accepted-shows : (out : List ℕ)
         → carded (accepted n w file (clockAt f t) first second words out) (clockAt f t) .shows
         ≡ took n w p (record { words = row; steps = s }) words out .shows
@@ -104,13 +111,14 @@ module _ {n w : ℕ} {file : List ℕ} {p : ℕ → ℕ} (D : Dims n w) (P : Per
     accepted-shows out = elim (decLt f 2) [
       | yes l ↦
           ifLt-yes s (2 * c) _ _ _ (omega (arith, digits-lt l inside))
-          (ap₂ seen (said-filling (min f 2) (nextClock c (clockAt f t)) (omega arith)) (sym (ifLt-yes (min f 2) 2 _ _ _ (omega arith) refl)))
+          (ap₂ seen (said-filling n w file (clockAt f t) (omega arith)) (sym (ifLt-yes (min f 2) 2 _ _ _ (omega arith) refl)))
       | no l ↦
           let g : ℕ = f - 2 in
           let e : f ≡ g + 2 = omega arith in
           ifLt-no s (2 * c) _ _ _ (omega (arith, add-mul g 2 c, ap (λ (z : ℕ). z * c) e))
-          (ap₂ seen (said-wrote (min f 2) (nextClock c (clockAt f t)) (omega arith))
-          (sym (ifLt-no (min f 2) 2 _ _ _ (omega arith) (sym (overwrite-ext w _ _ out (leaves-given g e))))))
+          (ap₂ seen (said-wrote n w file (clockAt f t) (omega arith))
+          (sym (ifLt-no (min f 2) 2 _ _ _ (omega arith) (sym (overwrite-ext w _ _ out
+          (leaves-given (λ _. file) (λ _. p) D f t s inside steps first second row words joined H g e (P .permutes)))))))
     ]
 
     accepted-stays : length words ≡ w → (out : List ℕ)
@@ -123,7 +131,7 @@ module _ {n w : ℕ} {file : List ℕ} {p : ℕ → ℕ} (D : Dims n w) (P : Per
         t = t + 1;
         inside = l;
         steps = omega arith;
-        clock = clock-after (min f 2) (nextClock c (clockAt f t)) (clockAt f t) ∙ clock-next c f t l;
+        clock = clock-after n w file (clockAt f t) ∙ clock-next c f t l;
         joined = row-long;
         first-long = rw length-entering long;
         second-long = rw length-movedTo long′;
@@ -134,19 +142,22 @@ module _ {n w : ℕ} {file : List ℕ} {p : ℕ → ℕ} (D : Dims n w) (P : Per
         t = 0;
         inside = cycles-positive D;
         steps = omega (arith, add-mul f 1 c);
-        clock = clock-after (min f 2) (nextClock c (clockAt f t)) (clockAt f t) ∙ clock-turns c f t (omega arith);
+        clock = clock-after n w file (clockAt f t) ∙ clock-turns c f t (omega arith);
         joined = omega (arith, row-long, ap (λ (z : ℕ). z * w) e, cycles-mul D, add-mul f 1 n, zero-mul w);
         first-long = rw length-entering long;
         second-long = rw length-movedTo long′;
-        held = held-turn D P f (entering c (clockAt f t) words w first) (movedTo n w file f t first second) (row ++ words) (rw e at after);
+        held = held-turn (λ _. file) (λ _. p) D f (entering c (clockAt f t) words w first) (movedTo n w file f t first second) (row ++ words)
+            (λ _ _. P) (rw e at after);
       }
     ]
       where
         row-long : length (row ++ words) ≡ f * n + (t + 1) * w
         row-long = simp (length-append, add-mul, one-mul) (omega arith)
 
-        after : Held n w file p f (t + 1) (entering c (clockAt f t) words w first) (movedTo n w file f t first second) (row ++ words)
-        after = held-step D P f t inside first second row words long long′ joined H
+        after : Held n w (λ _. file) (λ _. p) f (t + 1) (entering c (clockAt f t) words w first) (movedTo n w file f t first second) (row ++ words)
+        after =
+            held-step (λ _. file) (λ _. p) D f t inside first second row words long long′ joined H file
+            (λ _ _. refl) (λ _ _. P) (λ _ _. P .permutes)
 
   pub accepted-agrees : (card : Card) (row : Row) (words out : List ℕ) → length words ≡ w → Related n w file p card row
       → Agree (Related n w file p) (carded (accepted n w file (card .clock) (card .first) (card .second) words out) (card .clock))

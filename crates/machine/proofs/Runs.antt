@@ -1,5 +1,5 @@
 -- Devices over lists of steps. Two devices that stay related and show the same at each step show the same over all lists of steps, and are
--- related after each; what one device keeps at each step it has after each list. By induction over the list.
+-- related after each. By induction over the list.
 use mathlib.Core.Path.{_≡_, refl, ap₂}
 use mathlib.Core.List.{List, [], _∷_}
 use Rattle.machine.specs.Devices.{Seen, Feed, After, run}
@@ -8,13 +8,6 @@ use Rattle.machine.specs.Devices.{Seen, Feed, After, run}
 unfoldable pub reached : {S : Type 0} → (S → Feed → After S) → S → List Feed → S
 reached step s [] = s
 reached step s (x ∷ xs) = reached step (step s x .state) xs
-
--- what each step keeps
-pub reached-keeps : {S : Type 0} (step : S → Feed → After S) (P : S → Type 0) → ((s : S) (x : Feed) → P s → P (step s x .state))
-    → (s : S) → P s → (xs : List Feed) → P (reached step s xs)
-unfolding reached
-reached-keeps step P keeps s h [] = h
-reached-keeps step P keeps s h (x ∷ xs) = reached-keeps step P keeps (step s x .state) (keeps s x h) xs
 
 -- two devices after a step: they show the same, and are related
 pub record Agree {S T : Type 0} (R : S → T → Type 0) (a : After S) (b : After T) : Type 0 where

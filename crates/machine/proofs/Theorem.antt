@@ -4,7 +4,6 @@
 use Prim.Native.Nat.{ℕ, _*_, _/_, _%_, _≤_}
 use mathlib.Core.Path.{_≡_, refl, sym, ap, ap₂, _∙_}
 use mathlib.Core.List.{List}
-use native.Mathlib.Omega.{arith}
 use lib.Arith.{digits-div, digits-mod}
 use lib.ListN.{length}
 use Rattle.laws.specs.Permutation.{Permutes}
@@ -14,18 +13,18 @@ use Rattle.tables.specs.Format.{shapeOf, openOf}
 use Rattle.tables.specs.Datapath.{Performs}
 use Rattle.tables.specs.Generated.{Schedule, setOf}
 use Rattle.tables.specs.declared.Opened.the-variants.{Set}
-use Rattle.tables.proofs.Dims.{Dims, cycles-positive}
+use Rattle.tables.proofs.Dims.{Dims}
 use Rattle.tables.proofs.Form.{opened-dims, setOf-opened}
 use Rattle.tables.proofs.ReadsBack.{setOf-performs}
 use Rattle.tables.proofs.Within.{accepted-within}
 use Rattle.tables.proofs.Performs.{performs-accepted}
 use Rattle.machine.specs.Devices.{Feed, feed, After, run}
-use Rattle.machine.specs.Step.{fresh, Outcome}
+use Rattle.machine.specs.Step.{fresh, StepOutcome}
 use Rattle.machine.specs.Machine.{Card, carded, clockAfter, said, machine}
 use Rattle.machine.specs.Plain.{Row, empty, turned, plain}
-use Rattle.machine.proofs.Runs.{reached, reached-keeps, Agree, simulate, simulate-reached}
-use Rattle.machine.proofs.Cases.{stepLeft, step-cases, step-in-range}
-use Rattle.machine.proofs.Clocks.{InRange, clockAt, clockAt-in-range}
+use Rattle.machine.proofs.Runs.{reached, Agree, simulate, simulate-reached}
+use Rattle.machine.proofs.Cases.{stepLeft, step-left}
+use Rattle.machine.proofs.Clocks.{clockAt, clockAt-in-range}
 use Rattle.machine.proofs.Relation.{Related, related-fresh, accepted-agrees}
 
 module _ {n w : ℕ} (file : List ℕ) (p : ℕ → ℕ) (opened : openOf file ≡ Set (shapeOf n w)) (P : Performs n w file p) where
@@ -37,14 +36,14 @@ module _ {n w : ℕ} (file : List ℕ) (p : ℕ → ℕ) (opened : openOf file �
       → Agree (Related n w file p) (machine file card x) (plain n w p row x)
   unfolding machine plain stepLeft carded said clockAfter turned
   step-agrees card row (feed words out) R =
-      rw (step-cases file (card .clock) (card .first) (card .second) words out opened (R .first-long) (R .second-long)
+      rw (step-left file (card .clock) (card .first) (card .second) words out opened (R .first-long) (R .second-long)
       (rw (R .clock) (clockAt-in-range (R .f) (R .inside)))
       (rw (R .clock) (accepted-within (performs-accepted D P) (R .t) (R .inside))))
       (ifLt-both Same (length out) w _ _ _ _ (λ _. record { shows = refl; stays = R })
       (λ _. ifEq-both Same (length words) w _ _ _ _ (λ wide. accepted-agrees D P card row words out wide R)
       (λ _. record { shows = refl; stays = R })))
     where
-      Same : Outcome → After Row → Type 0
+      Same : StepOutcome → After Row → Type 0
       Same o a = Agree (Related n w file p) (carded o (card .clock)) a
 
 -- the cycle machine, from a fresh clock and two memories of 2n words or more that hold anything, on a set that performs p
@@ -72,11 +71,3 @@ clock-counts {n} {w} file p opened P first second long long′ steps =
     (related-fresh (opened-dims file opened .0) P first second long long′) steps in
     R .clock ∙ ap₂ clockAt (sym (ap (λ (z : ℕ). z / cycles n w) (R .steps) ∙ digits-div (R .f) (R .inside)))
     (sym (ap (λ (z : ℕ). z % cycles n w) (R .steps) ∙ digits-mod (R .f) (R .inside)))
-
--- over any list of steps from a fresh clock the clock stays in its ranges, whatever the set's lines and the memories
-pub clock-in-range : (n w : ℕ) (file : List ℕ) → openOf file ≡ Set (shapeOf n w) → (first second : List ℕ) (steps : List Feed)
-    → InRange (cycles n w) (reached (machine file) (record { clock = fresh; first = first; second = second }) steps .clock)
-unfolding fresh
-clock-in-range n w file opened first second steps =
-    reached-keeps (machine file) (λ (card : Card). InRange (cycles n w) (card .clock)) (step-in-range n w file opened) _
-    (record { cycle = cycles-positive (opened-dims file opened .0); half = omega arith; fill = omega arith }) steps

@@ -3,7 +3,7 @@
 use Prim.Native.Nat.{ℕ}
 use mathlib.Core.List.{List}
 use Rattle.machine.specs.Devices.{seen, Feed, feed, After}
-use Rattle.machine.specs.Step.{Outcome, outcome, stepOf}
+use Rattle.machine.specs.Step.{StepOutcome, stepOutcome, stepOf}
 use Rattle.machine.specs.Machine.{Card, said, clockAfter}
 use Rattle.machine.specs.declared.Clock.{Clock}
 use Rattle.machine.specs.declared.Stepped.{Stepped}
@@ -12,8 +12,8 @@ use Rattle.machine.specs.declared.Stepped.{Stepped}
 pub data Lent : Type 0 where
   lent : Stepped → Clock → List ℕ → List ℕ → List ℕ → Lent
 
-unfoldable pub clocked : Outcome → Clock → Lent
-clocked (outcome answer first second out) clock = lent answer (clockAfter answer clock) first second out
+unfoldable pub clocked : StepOutcome → Clock → Lent
+clocked (stepOutcome answer first second out) clock = lent answer (clockAfter answer clock) first second out
 
 -- the call
 unfoldable pub lentStep : List ℕ → Clock → List ℕ → List ℕ → List ℕ → List ℕ → Lent

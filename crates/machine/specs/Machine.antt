@@ -3,7 +3,7 @@ use Prim.Native.Nat.{ℕ}
 use mathlib.Core.List.{List}
 use Rattle.refusal.specs.Refusals.{numberOf, placeOf}
 use Rattle.machine.specs.Devices.{Said, filling, wrote, refused, seen, Feed, feed, After}
-use Rattle.machine.specs.Step.{Outcome, outcome, stepOf}
+use Rattle.machine.specs.Step.{StepOutcome, stepOutcome, stepOf}
 use Rattle.machine.specs.declared.Clock.{Clock}
 use Rattle.machine.specs.declared.Stepped.{Stepped}
 use Rattle.machine.specs.declared.Stepped.the-variants.{Filling, Wrote, Refused}
@@ -15,17 +15,17 @@ pub record Card : Type 0 where
 
 -- what an answer says, and the clock that it leaves; "a refused one leaves them as they were"
 unfoldable pub said : Stepped → Said
-said (Filling next) = filling
-said (Wrote next) = wrote
+said (Filling advance) = filling
+said (Wrote advance) = wrote
 said (Refused r) = refused (numberOf r) (placeOf r)
 
 unfoldable pub clockAfter : Stepped → Clock → Clock
-clockAfter (Filling next) clock = next
-clockAfter (Wrote next) clock = next
+clockAfter (Filling advance) clock = advance .next
+clockAfter (Wrote advance) clock = advance .next
 clockAfter (Refused r) clock = clock
 
-unfoldable pub carded : Outcome → Clock → After Card
-carded (outcome answer first second out) clock = record {
+unfoldable pub carded : StepOutcome → Clock → After Card
+carded (stepOutcome answer first second out) clock = record {
   state = record { clock = clockAfter answer clock; first = first; second = second };
   shows = seen (said answer) out;
 }

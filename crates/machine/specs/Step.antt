@@ -12,6 +12,7 @@ use Rattle.tables.specs.Format.{readAddress, writeAddress, openOf}
 use Rattle.tables.specs.Datapath.{carriedTo, readStrays, carryStrays, writeStrays}
 use Rattle.tables.specs.declared.Opened.{Opened}
 use Rattle.tables.specs.declared.Opened.the-variants.{Set, Refused as Unopened}
+use Rattle.machine.specs.declared.Advance.{Advance}
 use Rattle.machine.specs.declared.Clock.{Clock}
 use Rattle.machine.specs.declared.Stepped.{Stepped}
 use Rattle.machine.specs.declared.Stepped.the-variants.{Filling, Wrote, Refused}
@@ -25,11 +26,11 @@ unfoldable pub fresh : Clock
 fresh = record { cycle = 0; half = 0; fill = 0 }
 
 -- 4. "t grows by one. After c-1 it returns to 0, h flips, and fill grows by one up to 2."
+unfoldable pub nextFrame : Clock → Clock
+nextFrame clock = record { cycle = 0; half = 1 - clock .half; fill = min (clock .fill + 1) 2 }
+
 unfoldable pub nextClock : ℕ → Clock → Clock
-nextClock c clock =
-    ifLt (clock .cycle + 1) c
-    (record { cycle = clock .cycle + 1; half = clock .half; fill = clock .fill })
-    (record { cycle = 0; half = 1 - clock .half; fill = min (clock .fill + 1) 2 })
+nextClock c clock = ifLt (clock .cycle + 1) c (record { cycle = clock .cycle + 1; half = clock .half; fill = clock .fill }) (nextFrame clock)
 
 -- 1. "the w words that leave are address t of half 1-h of each bank of the second memory"
 unfoldable pub leaving : ℕ → Clock → List ℕ → ℕ → ℕ
@@ -50,45 +51,63 @@ entering c clock words zero first = first
 entering c clock words (suc b) first =
     set (entering c clock words b first) (spot c (clock .half) b (clock .cycle)) (getD words b 0)
 
+-- what an accepted step gives beside the words: the next clock
+unfoldable pub advanceOf : ℕ → ℕ → List ℕ → Clock → Advance
+advanceOf n w file clock = record { next = nextClock (cycles n w) clock }
+
+-- what it says: `filling` while fill is below 2, then that w words were written
+unfoldable pub saysOf : ℕ → ℕ → List ℕ → Clock → Stepped
+saysOf n w file clock =
+    let advance : Advance = advanceOf n w file clock in
+    ifLt (clock .fill) 2 (Filling advance) (Wrote advance)
+
 -- an answer, with the first memory, the second memory and the output memory afterwards
-pub data Outcome : Type 0 where
-  outcome : Stepped → List ℕ → List ℕ → List ℕ → Outcome
+pub data StepOutcome : Type 0 where
+  stepOutcome : Stepped → List ℕ → List ℕ → List ℕ → StepOutcome
 
 -- an accepted step
-unfoldable pub accepted : ℕ → ℕ → List ℕ → Clock → List ℕ → List ℕ → List ℕ → List ℕ → Outcome
+unfoldable pub accepted : ℕ → ℕ → List ℕ → Clock → List ℕ → List ℕ → List ℕ → List ℕ → StepOutcome
 accepted n w file clock first second words out =
     let c : ℕ = cycles n w in
-    outcome (ifLt (clock .fill) 2 (Filling (nextClock c clock)) (Wrote (nextClock c clock))) (entering c clock words w first)
+    stepOutcome (saysOf n w file clock) (entering c clock words w first)
     (ifLt (clock .fill) 1 second (moving n w file clock first w second)) (ifLt (clock .fill) 2 out (overwrite w (leaving c clock second) out))
 
+-- The tests, each with what follows where it refuses and where it passes.
+
+-- 12: "a lent buffer is shorter than needed", then 13: "a step is given other than w words"; of the lengths of what is lent
+unfoldable pub bufferTest : {X : Type 0} → ℕ → ℕ → ℕ → ℕ → ℕ → ℕ → (Refusal → X) → X → X
+bufferTest n w first second words out refused next =
+    ifLt first (2 * n) (refused BufferShort)
+    (ifLt second (2 * n) (refused BufferShort)
+    (ifLt out w (refused BufferShort)
+    (ifEq words w next (refused WordCount))))
+
+-- 14: "the clock has t of c or more, h above 1 or fill above 2"
+unfoldable pub clockTest : {X : Type 0} → ℕ → Clock → (Refusal → X) → X → X
+clockTest c clock refused next =
+    ifLe c (clock .cycle) (refused ClockRange) (ifLt 1 (clock .half) (refused ClockRange) (ifLt 2 (clock .fill) (refused ClockRange) next))
+
 -- "then, if fill is at least 1, the range part of 9, then 10, then the range part of 11, for its own line only"
-unfoldable pub lineTest : ℕ → ℕ → List ℕ → Clock → (Refusal → Outcome) → Outcome → Outcome
+unfoldable pub lineTest : {X : Type 0} → ℕ → ℕ → List ℕ → Clock → (Refusal → X) → X → X
 lineTest n w file clock refused next =
     ifLt (clock .fill) 1 next
     (choose (readStrays n w file (clock .cycle)) (refused (ReadAddress (clock .cycle)))
     (choose (carryStrays n w file (clock .cycle)) (refused (SpareLine (clock .cycle)))
     (choose (writeStrays n w file (clock .cycle)) (refused (WriteAddress (clock .cycle))) next)))
 
--- 14: "the clock has t of c or more, h above 1 or fill above 2"
-unfoldable pub clockTest : ℕ → Clock → (Refusal → Outcome) → Outcome → Outcome
-clockTest c clock refused next =
-    ifLe c (clock .cycle) (refused ClockRange) (ifLt 1 (clock .half) (refused ClockRange) (ifLt 2 (clock .fill) (refused ClockRange) next))
-
 -- a step on a set of the right form, of n words and width w: 12, 13, 14, then its own line
-unfoldable pub stepLine : ℕ → ℕ → List ℕ → Clock → List ℕ → List ℕ → List ℕ → List ℕ → Outcome
+unfoldable pub stepLine : ℕ → ℕ → List ℕ → Clock → List ℕ → List ℕ → List ℕ → List ℕ → StepOutcome
 stepLine n w file clock first second words out =
-    let refused : Refusal → Outcome = λ r. outcome (Refused r) first second out in
-    ifLt (length first) (2 * n) (refused BufferShort)
-    (ifLt (length second) (2 * n) (refused BufferShort)
-    (ifLt (length out) w (refused BufferShort)
-    (ifEq (length words) w
-    (clockTest (cycles n w) clock refused (lineTest n w file clock refused (accepted n w file clock first second words out)))
-    (refused WordCount))))
+    let refused : Refusal → StepOutcome = λ r. stepOutcome (Refused r) first second out in
+    bufferTest n w (length first) (length second) (length words) (length out) refused
+    (clockTest (cycles n w) clock refused
+    (lineTest n w file clock refused
+    (accepted n w file clock first second words out)))
 
-unfoldable pub stepOpened : Opened → List ℕ → Clock → List ℕ → List ℕ → List ℕ → List ℕ → Outcome
+unfoldable pub stepOpened : Opened → List ℕ → Clock → List ℕ → List ℕ → List ℕ → List ℕ → StepOutcome
 stepOpened (Set shape) file clock first second words out = stepLine (shape .words) (shape .width) file clock first second words out
-stepOpened (Unopened r) file clock first second words out = outcome (Refused r) first second out
+stepOpened (Unopened r) file clock first second words out = stepOutcome (Refused r) first second out
 
 -- the call: "6, 7, 6, 8, 12, 13, 14; then .."
-unfoldable pub stepOf : List ℕ → Clock → List ℕ → List ℕ → List ℕ → List ℕ → Outcome
+unfoldable pub stepOf : List ℕ → Clock → List ℕ → List ℕ → List ℕ → List ℕ → StepOutcome
 stepOf file clock first second words out = stepOpened (openOf file) file clock first second words out

@@ -11,8 +11,8 @@ fn clock_after(stepped: Stepped, clock: Clock) -> Clock
     ensures { λ r. ⌜ r ≡ clockAfter stepped clock ⌝ }
 {
     match stepped {
-        Stepped::Filling(next) => next,
-        Stepped::Wrote(next) => next,
+        Stepped::Filling(advance) => advance.next,
+        Stepped::Wrote(advance) => advance.next,
         Stepped::Refused(_) => clock,
     }
 }
@@ -26,7 +26,9 @@ pub fn step_lent(
     words: &[u16],
     out: &mut [u16],
 ) -> Stepped
-    ensures { λ r. ⌜ lent r (now (clock .exit)) (now (first .exit)) (now (second .exit)) (now (out .exit)) ≡ lentStep (now (file .entry)) (now (clock .entry)) (now (first .entry)) (now (second .entry)) (now (words .entry)) (now (out .entry)) ⌝ }
+    ensures { λ r. ⌜ lent r (now (clock .exit)) (now (first .exit)) (now (second .exit)) (now (out .exit))
+        ≡ lentStep (now (file .entry)) (now (clock .entry)) (now (first .entry)) (now (second .entry)) (now (words .entry))
+        (now (out .entry)) ⌝ }
 {
     let before = *clock;
     let stepped = step(file, before, first, second, words, out);

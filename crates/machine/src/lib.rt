@@ -1,7 +1,7 @@
 // The cycle machine: its clock, and one step.
 ghost use mathlib.Core.Path.{_≡_};
-ghost use Prim.Native.Nat.{_^_, _<_, _≤_};
-ghost use Rattle.machine.specs.Step.{fresh, nextClock};
+ghost use Prim.Native.Nat.{_+_, _-_, min};
+ghost use Rattle.machine.specs.Step.{fresh, nextClock, nextFrame};
 
 mod lent;
 mod stepping;
@@ -31,11 +31,13 @@ impl Clock {
         }
     }
 
-    // The clock after an accepted step, in frames of `cycles` cycles. Only our own crates call it, with a clock in its ranges.
+    // The clock after an accepted step, in frames of `cycles` cycles.
     pub fn next(self, cycles: usize) -> Clock
-        requires { ⌜ (self .cycle < 2 ^ 32) × (self .half ≤ 1) × (self .fill ≤ 2) ⌝ }
         ensures { λ r. ⌜ r ≡ nextClock cycles self ⌝ }
     {
+        if cycles <= self.cycle {
+            return self.next_frame();
+        }
         let cycle = self.cycle + 1;
         if cycle < cycles {
             return Clock {
@@ -44,26 +46,50 @@ impl Clock {
                 fill: self.fill,
             };
         }
-        let half = 1 - self.half;
-        if self.fill < 2 {
-            return Clock {
-                cycle: 0,
-                half,
-                fill: self.fill + 1,
-            };
-        }
+        self.next_frame()
+    }
+
+    // The clock at the start of the next frame.
+    fn next_frame(self) -> Clock
+        ensures { λ r. ⌜ r ≡ nextFrame self ⌝ }
+    {
         Clock {
             cycle: 0,
-            half,
-            fill: 2,
+            half: flipped(self.half),
+            fill: grown(self.fill),
         }
     }
 }
 
+// The other half.
+fn flipped(half: usize) -> usize
+    ensures { λ r. ⌜ r ≡ 1 - half ⌝ }
+{
+    if half < 1 {
+        return 1;
+    }
+    0
+}
+
+// The frames held after one more.
+fn grown(fill: usize) -> usize
+    ensures { λ r. ⌜ r ≡ min (fill + 1) 2 ⌝ }
+{
+    if fill < 1 {
+        return 1;
+    }
+    2
+}
+
+// What an accepted step gives beside the words.
+pub struct Advance {
+    pub next: Clock,
+}
+
 pub enum Stepped {
-    // No words leave yet. The next clock.
-    Filling(Clock),
-    // w words were written. The next clock.
-    Wrote(Clock),
+    // No words leave yet.
+    Filling(Advance),
+    // w words were written.
+    Wrote(Advance),
     Refused(Refusal),
 }

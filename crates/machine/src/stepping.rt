@@ -1,18 +1,18 @@
-// One step on lent memories: the tests in their order, then the words that leave, the line that moves and the words that enter.
+// One step on lent memories: the tests in their order, then the line that moves, the words that leave and the words that enter.
 ghost use mathlib.Core.Path.{_≡_};
 ghost use mathlib.Core.Bool.{false};
 ghost use mathlib.Core.List.{List};
 ghost use Prim.Native.Nat.{ℕ, _*_, _<_, _≤_};
 ghost use lib.ListN.{length};
-ghost use Rattle.limits.specs.Limits.{mostWords};
 ghost use Rattle.laws.specs.Choice.{ifLt};
 ghost use Rattle.laws.specs.Tabulate.{overwrite};
 ghost use Rattle.tables.specs.Terms.{cycles};
 ghost use Rattle.tables.specs.Format.{Shaped};
 ghost use Rattle.tables.specs.Datapath.{strays};
 ghost use Rattle.tables.specs.inner.Lines.{Line};
-ghost use Rattle.machine.specs.Step.{spot, nextClock, leaving, moving, entering, outcome, accepted, lineTest, stepLine, stepOf};
-ghost use Rattle.machine.specs.declared.Stepped.the-variants.{Filling, Wrote, Refused};
+ghost use Rattle.machine.specs.Step.{spot, leaving, moving, entering, saysOf, stepOutcome, stepOf};
+ghost use Rattle.machine.specs.inner.Ready.{Room, InRange, lineOutcome, testOf, moveOf, readyOf};
+use crate::Advance;
 use crate::Clock;
 use crate::Stepped;
 use limits::MOST_SWITCHES;
@@ -25,6 +25,50 @@ use tables::line_at;
 use tables::open;
 use tables::spare_used;
 
+// The lengths of what a step is lent.
+struct Lengths {
+    first: usize,
+    second: usize,
+    words: usize,
+    out: usize,
+}
+
+// What a test says.
+enum Tested {
+    Passed,
+    Refused(Refusal),
+}
+
+// 12 and 13 for the lengths, then 14.
+fn test(shape: Shape, clock: Clock, lent: Lengths) -> Tested
+    requires { ⌜ Shaped shape ⌝ }
+    ensures { λ r. ⌜ r ≡ testOf (shape .words) (shape .width) clock (lent .first) (lent .second) (lent .words) (lent .out) ⌝ }
+{
+    let need = 2 * shape.words;
+    if lent.first < need {
+        return Tested::Refused(Refusal::BufferShort);
+    }
+    if lent.second < need {
+        return Tested::Refused(Refusal::BufferShort);
+    }
+    if lent.out < shape.width {
+        return Tested::Refused(Refusal::BufferShort);
+    }
+    if lent.words != shape.width {
+        return Tested::Refused(Refusal::WordCount);
+    }
+    if shape.cycles <= clock.cycle {
+        return Tested::Refused(Refusal::ClockRange);
+    }
+    if 1 < clock.half {
+        return Tested::Refused(Refusal::ClockRange);
+    }
+    if 2 < clock.fill {
+        return Tested::Refused(Refusal::ClockRange);
+    }
+    Tested::Passed
+}
+
 // The word of a memory at an address of a half of a bank.
 fn spot_of(shape: Shape, half: usize, bank: usize, address: usize) -> usize
     requires { ⌜ Shaped shape ⌝ }
@@ -34,40 +78,26 @@ fn spot_of(shape: Shape, half: usize, bank: usize, address: usize) -> usize
     bank * (2 * shape.cycles) + (half * shape.cycles + address)
 }
 
-// The words that leave, if fill is 2: address t of half 1-h of each bank of the second memory.
-fn leave(second: &[u16], shape: Shape, clock: Clock, out: &mut [u16])
-    requires { ⌜ Shaped shape ⌝ }
-    requires { ⌜ (2 * shape .words ≤ length (now second)) × (shape .width ≤ length (now out)) ⌝ }
-    requires { ⌜ (clock .cycle < cycles (shape .words) (shape .width)) × (clock .half < 2) ⌝ }
-    ensures { λ _. ⌜ now (out .exit) ≡ ifLt (clock .fill) 2 (now (out .entry)) (overwrite (shape .width) (leaving (cycles (shape .words) (shape .width)) clock (now (second .entry))) (now (out .entry))) ⌝ }
-{
-    if clock.fill < 2 {
-        return;
-    }
-    let other = 1 - clock.half;
-    let mut k = 0;
-    while k < shape.width {
-        let from = spot_of(shape, other, k, clock.cycle);
-        out[k] = second[from];
-        k += 1;
-    }
-}
-
 // The words of a line move from half 1-h of the first memory to half h of the second. Bank k takes the word of the bank that leaves the
-// network on line k.
-fn move_line<'a>(
-    first: &[u16],
-    second: &mut [u16],
+// network on line k. It says the same of every file of which these are the line's moves.
+fn move_words<'a>(
     shape: Shape,
     clock: Clock,
     reads: &'a [u16],
     sources: &'a [u8],
     writes: &'a [u16],
+    first: &[u16],
+    second: &mut [u16],
 )
     requires { ⌜ Shaped shape ⌝ }
     requires { ⌜ (2 * shape .words ≤ length (now first)) × (2 * shape .words ≤ length (now second)) × (clock .half < 2) ⌝ }
-    requires { ⌜ ((file : List ℕ) × (Line (shape .words) (shape .width) file (clock .cycle) (now reads) (now sources) (now writes)) × (strays (shape .words) (shape .width) file (clock .cycle) ≡ false)) ⌝ }
-    ensures { λ _. ⌜ ((file : List ℕ) → Line (shape .words) (shape .width) file (clock .cycle) (now (reads .entry)) (now (sources .entry)) (now (writes .entry)) → strays (shape .words) (shape .width) file (clock .cycle) ≡ false → now (second .exit) ≡ moving (shape .words) (shape .width) file clock (now (first .entry)) (shape .width) (now (second .entry))) ⌝ }
+    requires { ⌜ ((file : List ℕ)
+        × Line (shape .words) (shape .width) file (clock .cycle) (now reads) (now sources) (now writes)
+        × (strays (shape .words) (shape .width) file (clock .cycle) ≡ false)) ⌝ }
+    ensures { λ _. ⌜ ((file : List ℕ)
+        → Line (shape .words) (shape .width) file (clock .cycle) (now (reads .entry)) (now (sources .entry)) (now (writes .entry))
+        → strays (shape .words) (shape .width) file (clock .cycle) ≡ false
+        → now (second .exit) ≡ moving (shape .words) (shape .width) file clock (now (first .entry)) (shape .width) (now (second .entry))) ⌝ }
 {
     let other = 1 - clock.half;
     let mut k = 0;
@@ -80,72 +110,16 @@ fn move_line<'a>(
     }
 }
 
-// The words that enter: to address t of half h of each bank of the first memory.
-fn enter(first: &mut [u16], shape: Shape, clock: Clock, words: &[u16])
-    requires { ⌜ Shaped shape ⌝ }
-    requires { ⌜ (2 * shape .words ≤ length (now first)) × (length (now words) ≡ shape .width) ⌝ }
-    requires { ⌜ (clock .cycle < cycles (shape .words) (shape .width)) × (clock .half < 2) ⌝ }
-    ensures { λ _. ⌜ now (first .exit) ≡ entering (cycles (shape .words) (shape .width)) clock (now (words .entry)) (shape .width) (now (first .entry)) ⌝ }
+// The clock's own line, if fill is at least 1: 9, 10 and 11 for its ranges, then its words move.
+fn move_line(file: &[u8], shape: Shape, clock: Clock, first: &[u16], second: &mut [u16]) -> Tested
+    requires { ⌜ Shaped shape × InRange (cycles (shape .words) (shape .width)) clock ⌝ }
+    requires { ⌜ (2 * shape .words ≤ length (now first)) × (2 * shape .words ≤ length (now second)) ⌝ }
+    ensures { λ r. ⌜ lineOutcome r (now (second .exit))
+        ≡ moveOf (shape .words) (shape .width) (now (file .entry)) clock (now (first .entry)) (now (second .entry)) ⌝ }
 {
-    let mut b = 0;
-    while b < shape.width {
-        let to = spot_of(shape, clock.half, b, clock.cycle);
-        first[to] = words[b];
-        b += 1;
+    if clock.fill < 1 {
+        return Tested::Passed;
     }
-}
-
-// What an accepted step says.
-fn answer(clock: Clock, cycles: usize) -> Stepped
-    requires { ⌜ (clock .cycle < cycles) × (cycles ≤ mostWords) × (clock .half < 2) × (clock .fill ≤ 2) ⌝ }
-    ensures { λ r. ⌜ r ≡ ifLt (clock .fill) 2 (Filling (nextClock cycles clock)) (Wrote (nextClock cycles clock)) ⌝ }
-{
-    let next = clock.next(cycles);
-    if 2 <= clock.fill {
-        return Stepped::Wrote(next);
-    }
-    Stepped::Filling(next)
-}
-
-// An accepted step with a line to move. It says the same of every file of which these are the line's moves.
-fn carry_on<'a>(
-    shape: Shape,
-    clock: Clock,
-    reads: &'a [u16],
-    sources: &'a [u8],
-    writes: &'a [u16],
-    first: &mut [u16],
-    second: &mut [u16],
-    words: &[u16],
-    out: &mut [u16],
-) -> Stepped
-    requires { ⌜ Shaped shape ⌝ }
-    requires { ⌜ (2 * shape .words ≤ length (now first)) × (2 * shape .words ≤ length (now second)) × (shape .width ≤ length (now out)) × (length (now words) ≡ shape .width) ⌝ }
-    requires { ⌜ (clock .cycle < cycles (shape .words) (shape .width)) × (clock .half < 2) × (1 ≤ clock .fill) × (clock .fill ≤ 2) ⌝ }
-    requires { ⌜ ((file : List ℕ) × (Line (shape .words) (shape .width) file (clock .cycle) (now reads) (now sources) (now writes)) × (strays (shape .words) (shape .width) file (clock .cycle) ≡ false)) ⌝ }
-    ensures { λ r. ⌜ ((file : List ℕ) → Line (shape .words) (shape .width) file (clock .cycle) (now (reads .entry)) (now (sources .entry)) (now (writes .entry)) → strays (shape .words) (shape .width) file (clock .cycle) ≡ false → outcome r (now (first .exit)) (now (second .exit)) (now (out .exit)) ≡ accepted (shape .words) (shape .width) file clock (now (first .entry)) (now (second .entry)) (now (words .entry)) (now (out .entry))) ⌝ }
-{
-    leave(second, shape, clock, out);
-    move_line(first, second, shape, clock, reads, sources, writes);
-    enter(first, shape, clock, words);
-    answer(clock, shape.cycles)
-}
-
-// A step with a line to move: 9, 10 and 11 for the ranges of its own line, before anything is written, then the step.
-fn step_line(
-    file: &[u8],
-    shape: Shape,
-    clock: Clock,
-    first: &mut [u16],
-    second: &mut [u16],
-    words: &[u16],
-    out: &mut [u16],
-) -> Stepped
-    requires { ⌜ Shaped shape ⌝ }
-    requires { ⌜ (2 * shape .words ≤ length (now first)) × (2 * shape .words ≤ length (now second)) × (shape .width ≤ length (now out)) × (length (now words) ≡ shape .width) ⌝ }
-    requires { ⌜ (clock .cycle < cycles (shape .words) (shape .width)) × (clock .half < 2) × (1 ≤ clock .fill) × (clock .fill ≤ 2) ⌝ }
-    ensures { λ r. ⌜ outcome r (now (first .exit)) (now (second .exit)) (now (out .exit)) ≡ lineTest (shape .words) (shape .width) (now (file .entry)) clock (λ refusal. outcome (Refused refusal) (now (first .entry)) (now (second .entry)) (now (out .entry))) (accepted (shape .words) (shape .width) (now (file .entry)) clock (now (first .entry)) (now (second .entry)) (now (words .entry)) (now (out .entry))) ⌝ }
-{
     let mut setting = [0u8; MOST_SWITCHES];
     let mut reads = [0u16; MOST_WIDTH];
     let mut sources = [0u8; MOST_WIDTH];
@@ -160,28 +134,69 @@ fn step_line(
         &mut writes,
     );
     if any_from(&reads, shape.width, shape.cycles) {
-        return Stepped::Refused(Refusal::ReadAddress(clock.cycle));
+        return Tested::Refused(Refusal::ReadAddress(clock.cycle));
     }
     if spare_used(&sources, shape.width, shape.lines) {
-        return Stepped::Refused(Refusal::SpareLine(clock.cycle));
+        return Tested::Refused(Refusal::SpareLine(clock.cycle));
     }
     if any_from(&writes, shape.width, shape.cycles) {
-        return Stepped::Refused(Refusal::WriteAddress(clock.cycle));
+        return Tested::Refused(Refusal::WriteAddress(clock.cycle));
     }
-    carry_on(
-        shape,
-        clock,
-        &reads,
-        &sources,
-        &writes,
-        first,
-        second,
-        words,
-        out,
-    )
+    move_words(shape, clock, &reads, &sources, &writes, first, second);
+    Tested::Passed
 }
 
-// A step whose buffers and clock passed their tests. Until a frame is held words only enter.
+// The words that leave, if fill is 2: address t of half 1-h of each bank of the second memory.
+fn leave(shape: Shape, clock: Clock, second: &[u16], out: &mut [u16])
+    requires { ⌜ Shaped shape × InRange (cycles (shape .words) (shape .width)) clock ⌝ }
+    requires { ⌜ (2 * shape .words ≤ length (now second)) × (shape .width ≤ length (now out)) ⌝ }
+    ensures { λ _. ⌜ now (out .exit)
+        ≡ ifLt (clock .fill) 2 (now (out .entry))
+        (overwrite (shape .width) (leaving (cycles (shape .words) (shape .width)) clock (now (second .entry))) (now (out .entry))) ⌝ }
+{
+    if clock.fill < 2 {
+        return;
+    }
+    let other = 1 - clock.half;
+    let mut k = 0;
+    while k < shape.width {
+        let from = spot_of(shape, other, k, clock.cycle);
+        out[k] = second[from];
+        k += 1;
+    }
+}
+
+// The words that enter: to address t of half h of each bank of the first memory.
+fn enter(shape: Shape, clock: Clock, words: &[u16], first: &mut [u16])
+    requires { ⌜ Shaped shape × InRange (cycles (shape .words) (shape .width)) clock ⌝ }
+    requires { ⌜ (length (now words) ≡ shape .width) × (2 * shape .words ≤ length (now first)) ⌝ }
+    ensures { λ _. ⌜ now (first .exit)
+        ≡ entering (cycles (shape .words) (shape .width)) clock (now (words .entry)) (shape .width) (now (first .entry)) ⌝ }
+{
+    let mut b = 0;
+    while b < shape.width {
+        let to = spot_of(shape, clock.half, b, clock.cycle);
+        first[to] = words[b];
+        b += 1;
+    }
+}
+
+// What an accepted step says.
+fn answer(shape: Shape, clock: Clock) -> Stepped
+    requires { ⌜ Shaped shape ⌝ }
+    ensures { λ r. ⌜ ((file : List ℕ) → r ≡ saysOf (shape .words) (shape .width) file clock) ⌝ }
+{
+    let advance = Advance {
+        next: clock.next(shape.cycles),
+    };
+    if 2 <= clock.fill {
+        return Stepped::Wrote(advance);
+    }
+    Stepped::Filling(advance)
+}
+
+// A step that passed 12, 13 and 14. The line moves before the words leave, since its tests stand before all that is written; the words that
+// leave are in the half that it does not write.
 fn step_ready(
     file: &[u8],
     shape: Shape,
@@ -191,54 +206,20 @@ fn step_ready(
     words: &[u16],
     out: &mut [u16],
 ) -> Stepped
-    requires { ⌜ Shaped shape ⌝ }
-    requires { ⌜ (2 * shape .words ≤ length (now first)) × (2 * shape .words ≤ length (now second)) × (shape .width ≤ length (now out)) × (length (now words) ≡ shape .width) ⌝ }
-    requires { ⌜ (clock .cycle < cycles (shape .words) (shape .width)) × (clock .half < 2) × (clock .fill ≤ 2) ⌝ }
-    ensures { λ r. ⌜ outcome r (now (first .exit)) (now (second .exit)) (now (out .exit)) ≡ lineTest (shape .words) (shape .width) (now (file .entry)) clock (λ refusal. outcome (Refused refusal) (now (first .entry)) (now (second .entry)) (now (out .entry))) (accepted (shape .words) (shape .width) (now (file .entry)) clock (now (first .entry)) (now (second .entry)) (now (words .entry)) (now (out .entry))) ⌝ }
+    requires { ⌜ Shaped shape × InRange (cycles (shape .words) (shape .width)) clock ⌝ }
+    requires { ⌜ Room (shape .words) (shape .width) (now first) (now second) (now words) (now out) ⌝ }
+    ensures { λ r. ⌜ stepOutcome r (now (first .exit)) (now (second .exit)) (now (out .exit))
+        ≡ readyOf (shape .words) (shape .width) (now (file .entry)) clock (now (first .entry)) (now (second .entry)) (now (words .entry))
+        (now (out .entry)) ⌝ }
 {
-    if clock.fill < 1 {
-        enter(first, shape, clock, words);
-        return answer(clock, shape.cycles);
+    match move_line(file, shape, clock, first, second) {
+        Tested::Refused(refusal) => Stepped::Refused(refusal),
+        Tested::Passed => {
+            leave(shape, clock, second, out);
+            enter(shape, clock, words, first);
+            answer(shape, clock)
+        }
     }
-    step_line(file, shape, clock, first, second, words, out)
-}
-
-// A step on a set of the right form: 12, 13, 14, then the step's own line.
-fn step_set(
-    file: &[u8],
-    shape: Shape,
-    clock: Clock,
-    first: &mut [u16],
-    second: &mut [u16],
-    words: &[u16],
-    out: &mut [u16],
-) -> Stepped
-    requires { ⌜ Shaped shape ⌝ }
-    ensures { λ r. ⌜ outcome r (now (first .exit)) (now (second .exit)) (now (out .exit)) ≡ stepLine (shape .words) (shape .width) (now (file .entry)) clock (now (first .entry)) (now (second .entry)) (now (words .entry)) (now (out .entry)) ⌝ }
-{
-    let need = 2 * shape.words;
-    if first.len() < need {
-        return Stepped::Refused(Refusal::BufferShort);
-    }
-    if second.len() < need {
-        return Stepped::Refused(Refusal::BufferShort);
-    }
-    if out.len() < shape.width {
-        return Stepped::Refused(Refusal::BufferShort);
-    }
-    if words.len() != shape.width {
-        return Stepped::Refused(Refusal::WordCount);
-    }
-    if shape.cycles <= clock.cycle {
-        return Stepped::Refused(Refusal::ClockRange);
-    }
-    if 1 < clock.half {
-        return Stepped::Refused(Refusal::ClockRange);
-    }
-    if 2 < clock.fill {
-        return Stepped::Refused(Refusal::ClockRange);
-    }
-    step_ready(file, shape, clock, first, second, words, out)
 }
 
 // One step on a set: the next clock, and `filling` or that w words were written to the output memory.
@@ -250,10 +231,22 @@ pub fn step(
     words: &[u16],
     out: &mut [u16],
 ) -> Stepped
-    ensures { λ r. ⌜ outcome r (now (first .exit)) (now (second .exit)) (now (out .exit)) ≡ stepOf (now (file .entry)) clock (now (first .entry)) (now (second .entry)) (now (words .entry)) (now (out .entry)) ⌝ }
+    ensures { λ r. ⌜ stepOutcome r (now (first .exit)) (now (second .exit)) (now (out .exit))
+        ≡ stepOf (now (file .entry)) clock (now (first .entry)) (now (second .entry)) (now (words .entry)) (now (out .entry)) ⌝ }
 {
     match open(file) {
         Opened::Refused(refusal) => Stepped::Refused(refusal),
-        Opened::Set(shape) => step_set(file, shape, clock, first, second, words, out),
+        Opened::Set(shape) => {
+            let lent = Lengths {
+                first: first.len(),
+                second: second.len(),
+                words: words.len(),
+                out: out.len(),
+            };
+            match test(shape, clock, lent) {
+                Tested::Refused(refusal) => Stepped::Refused(refusal),
+                Tested::Passed => step_ready(file, shape, clock, first, second, words, out),
+            }
+        }
     }
 }

@@ -1,16 +1,16 @@
 -- Demand 1, lent memory: every call ends with a result or a refusal. A refused call leaves every lent word as it was, and an accepted one
 -- alters only the words that it names, the first so many of a list. All over the definitions that the contracts of the calls cite. A list that
 -- is not named here is lent as a shared slice, which no call can write; so is all that `follow` is lent.
-use Prim.Native.Nat.{ℕ, _+_, _*_, _-_, _≤_, _<_}
+use Prim.Native.Nat.{ℕ, _+_, _*_, _-_, _≤_}
 use mathlib.Core.Path.{_≡_, refl, ap, _∙_}
 use mathlib.Core.List.{List, _++_}
 use mathlib.Core.Logic.{_⊎_, inl, inr, ⊎-elim}
 use native.Mathlib.Omega.{arith}
 use lib.ListN.{length, getD, drop, length-append, length-drop}
 use lib.Seq.{getD-drop}
-use Rattle.laws.specs.Choice.{ifLt, ifEq, choose}
+use Rattle.laws.specs.Choice.{ifLt}
 use Rattle.laws.specs.Tabulate.{overwrite}
-use Rattle.laws.proofs.Choices.{ifLt-cases, ifLe-cases, ifEq-cases, choose-cases}
+use Rattle.laws.proofs.Choices.{ifLt-cases}
 use Rattle.laws.proofs.Tabulates.{length-overwrite, getD-overwrite-past}
 use Rattle.refusal.specs.declared.Refusal.{Refusal}
 use Rattle.images.specs.Images.{checkOf, orderOf}
@@ -19,29 +19,26 @@ use Rattle.images.specs.declared.Checked.the-variants.{Permutation, Refused as 
 use Rattle.network.specs.Network.{bitCount, depthOf}
 use Rattle.network.specs.Setting.{setting}
 use Rattle.setting.specs.Calls.{settledOf, SetOutcome, setOutcome, written, settingOf}
-use Rattle.tables.specs.Terms.{Dims, cycles, fileLength}
-use Rattle.tables.specs.Header.{headerWords, headerWidth}
+use Rattle.tables.specs.Terms.{cycles, fileLength}
 use Rattle.tables.specs.Format.{shapeOf, openOf}
-use Rattle.tables.specs.Datapath.{readStrays, carryStrays, writeStrays, strays}
 use Rattle.tables.specs.Reading.{readOf, readAs, readOutcome}
 use Rattle.tables.specs.Generated.{setOf as generatedSet}
 use Rattle.tables.specs.declared.Opened.the-variants.{Set}
 use Rattle.tables.specs.declared.Reading.the-variants.{Refused as Unread}
-use Rattle.tables.proofs.Form.{open-cases}
 use Rattle.laws.proofs.Joins.{getD-behind}
 use Rattle.tables.proofs.SetBits.{length-setOf}
-use Rattle.tables.proofs.Within.{strays-within}
 use Rattle.tables.proofs.Exact.{read-cases}
 use Rattle.generator.specs.Generating.{checksOf, Generates}
 use Rattle.generator.proofs.Checking.{checks-passed}
 use Rattle.generator.specs.declared.Generation.{Generation}
 use Rattle.generator.specs.declared.Generation.the-variants.{Written as Made, Refused as Unmade}
-use Rattle.machine.specs.Step.{nextClock, leaving, moving, entering, accepted, lineTest, clockTest, stepLine, stepOpened, stepOf, Outcome as StepOutcome, outcome as stepped}
+use Rattle.machine.specs.Step.{nextClock, leaving, moving, entering, saysOf, StepOutcome, stepOutcome, accepted, stepOf}
 use Rattle.machine.specs.Machine.{clockAfter}
 use Rattle.machine.specs.LentClock.{Lent, lent, clocked, lentStep}
 use Rattle.machine.specs.declared.Clock.{Clock}
-use Rattle.machine.specs.declared.Stepped.{Stepped}
-use Rattle.machine.specs.declared.Stepped.the-variants.{Filling, Wrote, Refused as Unstepped}
+use Rattle.machine.specs.declared.Stepped.the-variants.{Refused as Unstepped}
+use Rattle.machine.proofs.Cases.{Passed, step-cases}
+use Rattle.machine.proofs.Clocks.{clock-after}
 use Rattle.machine.proofs.Effects.{length-entering, entering-behind, length-moving, moving-behind}
 use Rattle.setting.specs.declared.Setting.the-variants.{Written, Refused as Unset}
 
@@ -136,71 +133,52 @@ module _ (file : List ℕ) (clock : Clock) (first second words out : List ℕ) w
     pub second-only : Only (2 * n) second second′
     pub out-only : Only w out out′
 
-  -- what an accepted step answers: the next clock, with `filling` or that w words were written
-  abbrev pub goesOn : ℕ → ℕ → Stepped
-  goesOn n w = ifLt (clock .fill) 2 (Filling (nextClock (cycles n w) clock)) (Wrote (nextClock (cycles n w) clock))
-
   pub StepLends : StepOutcome → Type 0
   StepLends o =
-      ((r : Refusal) × (o ≡ stepped (Unstepped r) first second out))
+      ((r : Refusal) × (o ≡ stepOutcome (Unstepped r) first second out))
       ⊎ ((n : ℕ) × (w : ℕ) × (first′ : List ℕ) × (second′ : List ℕ) × (out′ : List ℕ)
-      × (o ≡ stepped (goesOn n w) first′ second′ out′) × Moved n w first′ second′ out′)
+      × (o ≡ stepOutcome (saysOf n w file clock) first′ second′ out′) × Moved n w first′ second′ out′)
 
-  step-set : (n w : ℕ) → openOf file ≡ Set (shapeOf n w) → Dims n w → StepLends (stepLine n w file clock first second words out)
-  unfolding StepLends stepLine clockTest lineTest accepted strays
-  step-set n w opened D =
-      ifLt-cases StepLends (length first) (2 * n) _ _ (λ _. inl (_, refl)) λ long.
-      ifLt-cases StepLends (length second) (2 * n) _ _ (λ _. inl (_, refl)) λ long′.
-      ifLt-cases StepLends (length out) w _ _ (λ _. inl (_, refl)) λ room.
-      ifEq-cases StepLends (length words) w _ _ (λ wide.
-      ifLe-cases StepLends (cycles n w) (clock .cycle) _ _ (λ _. inl (_, refl)) λ cycle.
-      ifLt-cases StepLends 1 (clock .half) _ _ (λ _. inl (_, refl)) λ half.
-      ifLt-cases StepLends 2 (clock .fill) _ _ (λ _. inl (_, refl)) λ fill.
-      let one : clock .half < 2 = omega arith in
-      let taken : Only (2 * n) first (entering (cycles n w) clock words w first) = record {
-        long = length-entering (cycles n w) clock words w first;
-        behind = entering-behind D clock one cycle words first;
-      } in
-      let given : Only w out (ifLt (clock .fill) 2 out (overwrite w (leaving (cycles n w) clock second) out)) =
-      ifLt-cases (Only w out) (clock .fill) 2 _ _ (λ _. only-none) (λ _. only-overwrite w (leaving (cycles n w) clock second) out room) in
-      let through : (1 ≤ clock .fill → Only (2 * n) second (moving n w file clock first w second))
-      → Only (2 * n) second (ifLt (clock .fill) 1 second (moving n w file clock first w second)) = λ moves.
-      ifLt-cases (Only (2 * n) second) (clock .fill) 1 _ _ (λ _. only-none) (λ some. moves some) in
-      let done : (1 ≤ clock .fill → Only (2 * n) second (moving n w file clock first w second))
-      → StepLends (accepted n w file clock first second words out) = λ moves.
-      inr (n, w, _, _, _, refl, record { opened = opened; first-only = taken; second-only = through moves; out-only = given }) in
-      ifLt-cases StepLends (clock .fill) 1 _ _ (λ none. done (λ some. absurd (omega arith))) λ some.
-      choose-cases StepLends (readStrays n w file (clock .cycle)) _ _ (λ _. inl (_, refl)) λ reads.
-      choose-cases StepLends (carryStrays n w file (clock .cycle)) _ _ (λ _. inl (_, refl)) λ carries.
-      choose-cases StepLends (writeStrays n w file (clock .cycle)) _ _ (λ _. inl (_, refl)) λ writes.
-      done (λ _. record {
-        long = length-moving n w file clock second first;
-        behind = moving-behind D clock one (strays-within n w file (clock .cycle) (rw (reads, carries) writes)) first second;
-      })) (λ _. inl (_, refl))
-
-  step-refused : (r : Refusal) → StepLends (stepped (Unstepped r) first second out)
-  unfolding StepLends
-  step-refused r = inl (r, refl)
+  -- what a step that passed all tests alters
+  accepted-lends : (n w : ℕ) → Passed file clock first second words out n w → StepLends (accepted n w file clock first second words out)
+  unfolding StepLends accepted
+  accepted-lends n w T =
+      let D = T .dims in
+      let half = T .range .half in
+      let cycle = T .range .cycle in
+      inr (
+        n,
+        w,
+        _,
+        _,
+        _,
+        refl,
+        record {
+          opened = T .opened;
+          first-only = record {
+            long = length-entering (cycles n w) clock words w first;
+            behind = entering-behind D clock half cycle words first;
+          };
+          second-only = ifLt-cases (Only (2 * n) second) (clock .fill) 1 _ _ (λ _. only-none) (λ some. record {
+            long = length-moving n w file clock second first;
+            behind = moving-behind D clock half (T .line some) first second;
+          });
+          out-only = ifLt-cases (Only w out) (clock .fill) 2 _ _ (λ _. only-none)
+              (λ _. only-overwrite w (leaving (cycles n w) clock second) out (T .room .out-long));
+        },
+      )
 
   pub step-lends : StepLends (stepOf file clock first second words out)
-  unfolding stepOf stepOpened shapeOf
+  unfolding StepLends
   step-lends =
-      ⊎-elim
-      (λ r. rw (r .0) (step-set (headerWords file) (headerWidth file) (r .0) (r .1 .dims)))
-      (λ r. rw (r .1) (step-refused (r .0)))
-      (open-cases file)
+      ⊎-elim (λ r. rw (r .2) (accepted-lends (r .0) (r .1) (r .3))) (λ r. inl r) (step-cases file clock first second words out)
 
   -- a step on a lent clock: refused, the clock too is as it was, else it is the next clock
   pub LentLends : Lent → Type 0
   LentLends o =
       ((r : Refusal) × (o ≡ lent (Unstepped r) clock first second out))
       ⊎ ((n : ℕ) × (w : ℕ) × (first′ : List ℕ) × (second′ : List ℕ) × (out′ : List ℕ)
-      × (o ≡ lent (goesOn n w) (nextClock (cycles n w) clock) first′ second′ out′) × Moved n w first′ second′ out′)
-
-  goes-on : (n w : ℕ) → clockAfter (goesOn n w) clock ≡ nextClock (cycles n w) clock
-  unfolding clockAfter
-  goes-on n w =
-      ifLt-cases (λ (a : Stepped). clockAfter a clock ≡ nextClock (cycles n w) clock) (clock .fill) 2 _ _ (λ _. refl) (λ _. refl)
+      × (o ≡ lent (saysOf n w file clock) (nextClock (cycles n w) clock) first′ second′ out′) × Moved n w first′ second′ out′)
 
   with-clock : (o : StepOutcome) → StepLends o → LentLends (clocked o clock)
   unfolding StepLends LentLends clocked clockAfter
@@ -213,7 +191,7 @@ module _ (file : List ℕ) (clock : Clock) (first second words out : List ℕ) w
         r .3,
         r .4,
         ap (λ (x : StepOutcome). clocked x clock) (r .5)
-            ∙ ap (λ (c : Clock). lent (goesOn (r .0) (r .1)) c (r .2) (r .3) (r .4)) (goes-on (r .0) (r .1)),
+            ∙ ap (λ (c : Clock). lent (saysOf (r .0) (r .1) file clock) c (r .2) (r .3) (r .4)) (clock-after (r .0) (r .1) file clock),
         r .6,
       ))
 

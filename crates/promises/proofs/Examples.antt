@@ -24,7 +24,7 @@ use Rattle.tables.specs.Generated.{wordOf, portOf, writeOf, lineOf, setBits, se
 use Rattle.tables.specs.Reading.{ReadOutcome, readOutcome, readFault, writeFault, scanLines, imageOf, readLines, readOpened, readOf}
 use Rattle.tables.specs.declared.Reading.the-variants.{Read, Refused}
 use Rattle.machine.specs.Devices.{Feed, feed, Seen, seen, filling as fillingSaid, wrote, refused, run}
-use Rattle.machine.specs.Step.{spot, fresh, nextClock, leaving, moving, entering, accepted as stepAccepted, clockTest, lineTest, stepLine, stepOpened, stepOf}
+use Rattle.machine.specs.Step.{spot, fresh, nextFrame, nextClock, leaving, moving, entering, advanceOf, saysOf, accepted as stepAccepted, bufferTest, clockTest, lineTest, stepLine, stepOpened, stepOf}
 use Rattle.machine.specs.Machine.{said, clockAfter, carded, machine}
 use Rattle.machine.specs.Plain.{empty, given, took, turned, plain}
 use Rattle.promises.proofs.OneCycle.{noReads}
@@ -147,5 +147,5 @@ examples =
     ∷ []
 
 pub examples-hold : map (λ (e : Example). answer (e .question)) examples ≡ map (λ (e : Example). e .reply) examples
-unfolding limitTest lentTest headerOf examples order12 set12 enters steps12 fills shown12 noReads asks answer told checked checksOf scratchNeed checkOf checkFrom earlier ifLt ifLe ifEq any tabulate overwrite inverse digit bit field bitCount leaves cycles addressBits depth logFrom logUp switchBits addressRow lineBits headerBits fileLength headerWords headerWidth headerZeros lineAt readAddress switchBit writeAddress filling shapeOf headerTest lengthTest openOf carriedTo target carryStrays readFault writeFault scanLines imageOf readLines readOpened readOf wordOf portOf writeOf digits joined lineOf setBits numberAt packed setOf next rank least chosen setting carried readStrays writeStrays run machine carded said clockAfter stepOf stepOpened stepLine clockTest lineTest stepAccepted entering moving leaving nextClock fresh spot plain took turned given empty
+unfolding limitTest lentTest headerOf examples order12 set12 enters steps12 fills shown12 noReads asks answer told checked checksOf scratchNeed checkOf checkFrom earlier ifLt ifLe ifEq any tabulate overwrite inverse digit bit field bitCount leaves cycles addressBits depth logFrom logUp switchBits addressRow lineBits headerBits fileLength headerWords headerWidth headerZeros lineAt readAddress switchBit writeAddress filling shapeOf headerTest lengthTest openOf carriedTo target carryStrays readFault writeFault scanLines imageOf readLines readOpened readOf wordOf portOf writeOf digits joined lineOf setBits numberAt packed setOf next rank least chosen setting carried readStrays writeStrays run machine carded said clockAfter stepOf stepOpened stepLine bufferTest clockTest lineTest stepAccepted saysOf advanceOf entering moving leaving nextClock nextFrame fresh spot plain took turned given empty
 examples-hold = refl

@@ -44,8 +44,8 @@ readingAnswer (Unread r) = record { number = numberOf r; place = placeOf r; word
 
 -- a step: `filling` is 0, that w words were written is 1
 unfoldable pub steppedAnswer : Stepped → Answer
-steppedAnswer (Filling next) = record { number = 0; value = 0 }
-steppedAnswer (Wrote next) = record { number = 0; value = 1 }
+steppedAnswer (Filling advance) = record { number = 0; value = 0 }
+steppedAnswer (Wrote advance) = record { number = 0; value = 1 }
 steppedAnswer (Unstepped r) = refusalAnswer r
 
 -- a clock in three lent numbers: the cycle, the half, the fill

@@ -114,8 +114,8 @@ pub fn move_on(numbers: &mut [usize; 3], core: Stepped)
     ensures { λ _. ⌜ now (numbers .exit) ≡ putClock (now (numbers .entry)) (clockAfter core (clockOf (now (numbers .entry)))) ⌝ }
 {
     match core {
-        Stepped::Filling(next) => put_clock(numbers, next),
-        Stepped::Wrote(next) => put_clock(numbers, next),
+        Stepped::Filling(advance) => put_clock(numbers, advance.next),
+        Stepped::Wrote(advance) => put_clock(numbers, advance.next),
         Stepped::Refused(_) => {}
     }
 }

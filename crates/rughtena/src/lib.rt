@@ -8,7 +8,7 @@ ghost use Rattle.tables.specs.Reading.{readOf, readOutcome};
 ghost use Rattle.tables.specs.declared.Reading.{Reading};
 ghost use Rattle.generator.specs.Generating.{Generates};
 ghost use Rattle.generator.specs.declared.Generation.{Generation};
-ghost use Rattle.machine.specs.Step.{stepOf, outcome as stepOutcome};
+ghost use Rattle.machine.specs.Step.{stepOf, stepOutcome};
 ghost use Rattle.machine.specs.Machine.{clockAfter};
 ghost use Rattle.machine.specs.declared.Stepped.{Stepped};
 ghost use Rattle.rughtena.specs.Answers.{lineAnswer, settingAnswer, readingAnswer, generationAnswer, clockOf, putClock, steppedAnswer};

@@ -16,11 +16,11 @@ enum-told c = search needs
 
 returns : tie.Need-returns
 unfolding clockAfter
-returns c = rw (c .before .stepped .given .1) refl
+returns c = rw (c .before .before .stepped .given .1) refl
 
 returns-2 : tie.Need-returns-2
 unfolding clockAfter
-returns-2 c = rw (c .before .stepped2 .given .1) refl
+returns-2 c = rw (c .before .before .stepped2 .given .1) refl
 
 returns-3 : tie.Need-returns-3
 unfolding clockAfter

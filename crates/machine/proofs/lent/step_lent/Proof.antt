@@ -19,9 +19,11 @@ use ghost.Atoms.{Atoms, sem}
 use contract.Lifetimes.{Lfts, Shares}
 use contract.Monad.{Fun, fact}
 use contract.Running.{givenOf, tables, tablesOf}
-use types.Kit.{Given, Item, ‵, raw, _⊛_, ⋆, some, later, _$_, _∵_, !, qed, by, move, keep, drop, use1, use2, split, join, pick, fsplit, fsplit3, fjoin, fjoin3, feqL, feqI, suffices, frame, await, done}
+use types.Kit.{Given, Item, ‵, raw, _⊛_, ⋆, some, later, _$_, _∵_, !, qed, by, move, keep, drop, use1, use2, split, join, pick, fsplit, fsplit3}
+use types.Kit.{fjoin, fjoin3, feqL, feqI, suffices, frame, await, done}
 use types.Part.{agg, whole, sub, look-in}
-use types.Run.{look, look-raw, init, store-raw, forget, stop, hop, fld, from, load, addr, of-opd, and-then, no-more, assigns, land, returns, enter, alloc1, alloc0, params1, pass1, pass0, free1, free0}
+use types.Run.{look, look-raw, init, store-raw, forget, stop, hop, fld, from, load, addr, of-opd, and-then, no-more, assigns, land, returns, enter}
+use types.Run.{alloc1, alloc0, params1, pass1, pass0, free1, free0}
 use types.SemTy.{Body}
 use sound.WpLaws.{FmC, fmOf, WpFn-mono}
 use denote.RattleType.{owns}
@@ -40,10 +42,11 @@ use denote.Triple.Call.{calls-at}
 use denote.Triple.Entry.{Vals, onEntry}
 use denote.Triple.Spec.{Meets, tripleOf}
 use denote.Triple.Table.{entered, cited}
-use denote.Triple.Walked.{says, Stays, stay-ref, stay-dropped, gave-slice, walkOf, AllGo, goes-ref, goes-dropped, goes-gave-slice, Walks, ends-at, walked, walk-meets}
+use denote.Triple.Walked.{says, Stays, stay-ref, stay-dropped, gave-slice, walkOf, AllGo, goes-ref, goes-dropped, goes-gave-slice, Walks, ends-at}
+use denote.Triple.Walked.{walked, walk-meets}
 use denote.Triple.Clauses.{ensured, lasts}
 use denote.Exit.{yes}
-use Rattle.machine.specs.Step.{outcome, stepOf}
+use Rattle.machine.specs.Step.{stepOutcome, stepOf}
 use Rattle.machine.specs.Machine.{clockAfter}
 use Rattle.machine.specs.LentClock.{lent, lentStep}
 use Rattle.machine.specs.declared.Clock.{Clock}
@@ -185,7 +188,7 @@ module _ {M : Type 1} (𝓤 : URA M) (H : Heap 𝓤) (A : Atoms 𝓤) (W : Given
 
   -- what `step` says of its answer and the last words of the three slices
   abbrev Told : Stepped → Fins → Type 0
-  Told r zs = outcome r (zs .1 .1 .0) (zs .1 .1 .1 .0) (zs .1 .1 .1 .1 .1 .0) ≡ stepOf (now file) h (now first) (now second) (now words) (now out)
+  Told r zs = stepOutcome r (zs .1 .1 .0) (zs .1 .1 .1 .0) (zs .1 .1 .1 .1 .1 .0) ≡ stepOf (now file) h (now first) (now second) (now words) (now out)
 
   -- the tokens of the lifetimes that `step` is given, all but the clock's
   abbrev later-tokens : Item 𝓤
@@ -211,7 +214,8 @@ module _ {M : Type 1} (𝓤 : URA M) (H : Heap 𝓤) (A : Atoms 𝓤) (W : Given
   apart : ent 𝓤 (onEntry 𝓤 H A step-lent.signature κs qs a vals) (⋆ 𝓤 H A (‵ (fobs γ (T.the-row .coded .code h)) ∷ ‵ Borrow ∷ ‵ (flft κ₁ q₁) ∷ Rest ∷ []))
   apart =
       qed W ((‵ (flft κ₀ (qs .0)) ⊛ ‵ (flft κ₁ q₁) ⊛ later-tokens)
-      ∷ ‵ (owns (ShrSlice (named 0) κ₀ u8 ∷ MutRef (named 1) κ₁ T.the-row ∷ MutSlice (named 2) κ₂ u16 ∷ MutSlice (named 3) κ₃ u16 ∷ ShrSlice (named 4) κ₄ u16 ∷ MutSlice (named 5) κ₅ u16 ∷ []) a vals) ∷ []) ∵
+      ∷ ‵ (owns (ShrSlice (named 0) κ₀ u8 ∷ MutRef (named 1) κ₁ T.the-row ∷ MutSlice (named 2) κ₂ u16 ∷ MutSlice (named 3) κ₃ u16
+      ∷ ShrSlice (named 4) κ₄ u16 ∷ MutSlice (named 5) κ₅ u16 ∷ []) a vals) ∷ []) ∵
       split ! $ move ! (1 ∷ []) $ split ! $ move ! (2 ∷ 1 ∷ []) $ join ! $
       -- [the tokens of `step`; the clock's token; what the parameters own]
       move ! (2 ∷ []) $ fsplit ! $ move ! (1 ∷ []) $ fsplit ! $ fsplit3 ! $ drop ! $
@@ -229,7 +233,9 @@ module _ {M : Type 1} (𝓤 : URA M) (H : Heap 𝓤) (A : Atoms 𝓤) (W : Given
   abbrev to-after : Stepped → Val → After 𝓤 H A at-mem run .Ghost
   to-after r u = ((tt, tt, tt, (r, (h, tt)), (u ∷ [], (mach ∷ [], tt))), tt)
 
-  asked-after : (r : Stepped) (u : Val) → ent 𝓤 (sep 𝓤 (sem 𝓤 H A ftrue) (sem 𝓤 H A (owns (S.the-row ∷ T.the-row ∷ []) (r, (h, tt)) (u ∷ [], (mach ∷ [], tt))))) (After 𝓤 H A at-mem run .pre (to-after r u))
+  asked-after : (r : Stepped) (u : Val)
+      → ent 𝓤 (sep 𝓤 (sem 𝓤 H A ftrue) (sem 𝓤 H A (owns (S.the-row ∷ T.the-row ∷ []) (r, (h, tt)) (u ∷ [], (mach ∷ [], tt)))))
+      (After 𝓤 H A at-mem run .pre (to-after r u))
   asked-after r u = qed W (‵ ftrue ∷ ‵ (owns (S.the-row ∷ T.the-row ∷ []) (r, (h, tt)) (u ∷ [], (mach ∷ [], tt))) ∷ []) ∵ join ! $ frame ! $ done !
 
   after-said : (r : Stepped) (c : Clock) → ent 𝓤 (ensured 𝓤 H A after.ended (after.clauses 𝓤 H A at-mem run) tt (r, (h, tt)) tt c) (fact 𝓤 (c ≡ clockAfter r h))
@@ -247,10 +253,12 @@ module _ {M : Type 1} (𝓤 : URA M) (H : Heap 𝓤) (A : Atoms 𝓤) (W : Given
       → (length (zs .1 .1 .0) ≡ length (now first)) × ((length (zs .1 .1 .1 .0) ≡ length (now second)) × (length (zs .1 .1 .1 .1 .1 .0) ≡ length (now out)))
       → lent r c (zs .1 .1 .0) (zs .1 .1 .1 .0) (zs .1 .1 .1 .1 .1 .0) ≡ lentStep (now file) h (now first) (now second) (now words) (now out)
       → ent 𝓤 (⋆ 𝓤 H A (‵ (fobs γ (T.the-row .coded .code c)) ∷ ‵ Borrow ∷ ‵ (flft κ₁ q₁) ∷ ‵ (S.the-row .own r (u ∷ [])) ∷ tokens
-      ∷ ‵ (finally u16 (first .name) (zs .1 .1 .0)) ∷ ‵ (finally u16 (second .name) (zs .1 .1 .1 .0)) ∷ ‵ (finally u16 (out .name) (zs .1 .1 .1 .1 .1 .0)) ∷ [])) (Post u)
+      ∷ ‵ (finally u16 (first .name) (zs .1 .1 .0)) ∷ ‵ (finally u16 (second .name) (zs .1 .1 .1 .0)) ∷ ‵ (finally u16 (out .name) (zs .1 .1 .1 .1 .1 .0))
+      ∷ [])) (Post u)
   exits r u c zs same e =
       qed W (‵ (fobs γ (T.the-row .coded .code c)) ∷ ‵ Borrow ∷ ‵ (flft κ₁ q₁) ∷ ‵ (S.the-row .own r (u ∷ [])) ∷ tokens
-      ∷ ‵ (finally u16 (first .name) (zs .1 .1 .0)) ∷ ‵ (finally u16 (second .name) (zs .1 .1 .1 .0)) ∷ ‵ (finally u16 (out .name) (zs .1 .1 .1 .1 .1 .0)) ∷ []) ∵
+      ∷ ‵ (finally u16 (first .name) (zs .1 .1 .0)) ∷ ‵ (finally u16 (second .name) (zs .1 .1 .1 .0)) ∷ ‵ (finally u16 (out .name) (zs .1 .1 .1 .1 .1 .0))
+      ∷ []) ∵
       suffices ! _ (ends-at 𝓤 H A step-lent.ended stayed (step-lent.clauses 𝓤 H A at-mem run) W ((κs, qs, tt, a, vals), tt) u r
       (tt, (c, (zs .1 .1 .0, (zs .1 .1 .1 .0, (tt, (zs .1 .1 .1 .1 .1 .0, tt)))))) (tt, (tt, (same .0, (same .1 .0, (tt, (same .1 .1, tt))))))) $ says ! e $
       -- the tokens, the clock's among them
@@ -259,13 +267,16 @@ module _ {M : Type 1} (𝓤 : URA M) (H : Heap 𝓤) (A : Atoms 𝓤) (W : Given
       nothing ! $ move ! (6 ∷ 0 ∷ []) $ fjoin ! $ nothing ! $ fjoin ! $ move ! (5 ∷ 0 ∷ []) $ fjoin ! $ move ! (4 ∷ 0 ∷ []) $ fjoin ! $
       move ! (1 ∷ 2 ∷ []) $ feqI ! (List Val) (vptr b o ∷ []) (vptr b o ∷ []) refl $ fjoin3 ! $ fjoin ! $ nothing ! $ fjoin ! $ done !
 
-  module _ (C : Calls 𝓤 H) (Λ : Loops 𝓤 H) (fm-c : FmC 𝓤 H (W .laws) C) (known-step : Triple 𝓤 (C #step) (Step 𝓤 H A at-mem run)) (known-after : Triple 𝓤 (C #clock-after) (After 𝓤 H A at-mem run)) where
-    walk : Are (typesAt (step-lent.signature .params) κs) (Ises (typesAt (step-lent.signature .params) κs)) a vals → ent 𝓤 (onEntry 𝓤 H A step-lent.signature κs qs a vals) (WpFn 𝓤 H C Λ code.function args Post)
+  module _ (C : Calls 𝓤 H) (Λ : Loops 𝓤 H) (fm-c : FmC 𝓤 H (W .laws) C) (known-step : Triple 𝓤 (C #step) (Step 𝓤 H A at-mem run))
+      (known-after : Triple 𝓤 (C #clock-after) (After 𝓤 H A at-mem run)) where
+    walk : Are (typesAt (step-lent.signature .params) κs) (Ises (typesAt (step-lent.signature .params) κs)) a vals
+        → ent 𝓤 (onEntry 𝓤 H A step-lent.signature κs qs a vals) (WpFn 𝓤 H C Λ code.function args Post)
     walk are =
         via 𝓤 _ apart (qed W (‵ (fobs γ (T.the-row .coded .code h)) ∷ ‵ Borrow ∷ ‵ (flft κ₁ q₁) ∷ Rest ∷ []) ∵
         enter ! C Λ code.function args _ $
         alloc1 ! (λ l0. alloc1 ! (λ l1. alloc1 ! (λ l2. alloc1 ! (λ l3. alloc1 ! (λ l4. alloc1 ! (λ l5. alloc1 ! (λ l6. alloc1 ! (λ l7.
-        alloc1 ! (λ l8. alloc1 ! (λ l9. alloc1 ! (λ l10. alloc1 ! (λ l11. alloc1 ! (λ l12. alloc1 ! (λ l13. alloc1 ! (λ l14. alloc1 ! (λ l15. alloc0 ! $ params1 ! $
+        alloc1 ! (λ l8. alloc1 ! (λ l9. alloc1 ! (λ l10. alloc1 ! (λ l11.
+        alloc1 ! (λ l12. alloc1 ! (λ l13. alloc1 ! (λ l14. alloc1 ! (λ l15. alloc0 ! $ params1 ! $
         pass1 ! (init ! 28 refl (shr-slice-lawful 𝓤 H A W (named 0) κ₀ u8 .typed file (vals .0) (are .0) .0)) $
         pass1 ! (init ! 26 refl (tt, tt)) $
         pass1 ! (init ! 24 refl (tt, (tt, (record { fits = are .1 .1 .0 .0 .1 .0 }, tt)))) $
@@ -274,22 +285,33 @@ module _ {M : Type 1} (𝓤 : URA M) (H : Heap 𝓤) (A : Atoms 𝓤) (W : Given
         pass1 ! (init ! 18 refl (tt, (tt, (record { fits = are .1 .1 .1 .1 .1 .0 .0 .1 .0 }, tt)))) $
         pass0 ! $
         -- the borrow of the clock is opened, and the clock is read
-        move ! (32 ∷ 33 ∷ 34 ∷ []) $ opens ! tt T.the-row {h = h} b o (λ vs. spelt ! T.the-row (Is T.the-row) (shows 𝓤 H A T.the-row) (LL.vals T.the-type T′.the-laws) (LL.tells T.the-type T′.the-laws) fullShare h vs b o $
+        move ! (32 ∷ 33 ∷ 34 ∷ []) $ opens ! tt T.the-row {h = h} b o (λ vs. spelt ! T.the-row (Is T.the-row) (shows 𝓤 H A T.the-row)
+        (LL.vals T.the-type T′.the-laws) (LL.tells T.the-type T′.the-laws) fullShare h vs b o $
         move ! (1 ∷ []) $
         peeks ! T.the-row (Is T.the-row) (shows 𝓤 H A T.the-row) h (mach ∷ []) (λ is.
-        assigns ! (of-opd ! (load ! (from ! (hop ! (look ! 31 refl) (stop !))) (look-raw ! 1 refl))) (from ! (stop !)) (init ! 21 refl (clock-typed h mach is)) $
+        assigns ! (of-opd ! (load ! (from ! (hop ! (look ! 31 refl) (stop !))) (look-raw ! 1 refl))) (from ! (stop !))
+        (init ! 21 refl (clock-typed h mach is)) $
         -- [what the clock owns; its cell; the open borrow; obs; auth; _15; …; _0; …; the rest]; the three slices are lent on
         assigns ! (addr ! (from ! (fld ! refl (hop ! (look-in ! 29 (sub ! 0 refl (whole !))) (stop !))))) (from ! (stop !)) (init ! 17 refl (tt, tt)) $
-        assigns ! (agg ! (and-then ! (load ! (from ! (stop !)) (look ! 17 refl)) (and-then ! (load ! (from ! (fld ! refl (stop !))) (look-in ! 29 (sub ! 1 refl (whole !)))) (no-more !)))) (from ! (stop !)) (init ! 15 refl (tt, (tt, (record { fits = are .1 .1 .0 .0 .1 .0 }, tt)))) $
+        assigns ! (agg ! (and-then ! (load ! (from ! (stop !)) (look ! 17 refl))
+        (and-then ! (load ! (from ! (fld ! refl (stop !))) (look-in ! 29 (sub ! 1 refl (whole !)))) (no-more !)))) (from ! (stop !))
+        (init ! 15 refl (tt, (tt, (record { fits = are .1 .1 .0 .0 .1 .0 }, tt)))) $
         assigns ! (addr ! (from ! (fld ! refl (hop ! (look-in ! 27 (sub ! 0 refl (whole !))) (stop !))))) (from ! (stop !)) (init ! 13 refl (tt, tt)) $
-        assigns ! (agg ! (and-then ! (load ! (from ! (stop !)) (look ! 13 refl)) (and-then ! (load ! (from ! (fld ! refl (stop !))) (look-in ! 27 (sub ! 1 refl (whole !)))) (no-more !)))) (from ! (stop !)) (init ! 11 refl (tt, (tt, (record { fits = are .1 .1 .1 .0 .0 .1 .0 }, tt)))) $
+        assigns ! (agg ! (and-then ! (load ! (from ! (stop !)) (look ! 13 refl))
+        (and-then ! (load ! (from ! (fld ! refl (stop !))) (look-in ! 27 (sub ! 1 refl (whole !)))) (no-more !)))) (from ! (stop !))
+        (init ! 11 refl (tt, (tt, (record { fits = are .1 .1 .1 .0 .0 .1 .0 }, tt)))) $
         assigns ! (addr ! (from ! (fld ! refl (hop ! (look-in ! 23 (sub ! 0 refl (whole !))) (stop !))))) (from ! (stop !)) (init ! 9 refl (tt, tt)) $
-        assigns ! (agg ! (and-then ! (load ! (from ! (stop !)) (look ! 9 refl)) (and-then ! (load ! (from ! (fld ! refl (stop !))) (look-in ! 23 (sub ! 1 refl (whole !)))) (no-more !)))) (from ! (stop !)) (init ! 7 refl (tt, (tt, (record { fits = are .1 .1 .1 .1 .1 .0 .0 .1 .0 }, tt)))) $
+        assigns ! (agg ! (and-then ! (load ! (from ! (stop !)) (look ! 9 refl))
+        (and-then ! (load ! (from ! (fld ! refl (stop !))) (look-in ! 23 (sub ! 1 refl (whole !)))) (no-more !)))) (from ! (stop !))
+        (init ! 7 refl (tt, (tt, (record { fits = are .1 .1 .1 .1 .1 .0 .0 .1 .0 }, tt)))) $
         -- `step`
         move ! (0 ∷ 37 ∷ []) $ use2 W (raw (Step 𝓤 H A at-mem run .pre to-step)) asked $
         calls-at ! fm-c (Step 𝓤 H A at-mem run) known-step to-step
-        (and-then ! (load ! (from ! (stop !)) (look ! 33 refl)) (and-then ! (load ! (from ! (stop !)) (look ! 21 refl)) (and-then ! (load ! (from ! (stop !)) (look ! 15 refl)) (and-then ! (load ! (from ! (stop !)) (look ! 11 refl)) (and-then ! (load ! (from ! (stop !)) (look ! 25 refl)) (and-then ! (load ! (from ! (stop !)) (look ! 7 refl)) (no-more !))))))) (λ u.
-        use1 W (later (some (λ (r : Stepped). (tokens ⊛ ‵ (S.the-row .own r (u ∷ []))) ⊛ raw (ensured 𝓤 H A step.ended (step.clauses 𝓤 H A at-mem run) κs′ passed tt r)))) (id⊢ 𝓤 _) $ await ! tt $ pick ! (λ r.
+        (and-then ! (load ! (from ! (stop !)) (look ! 33 refl)) (and-then ! (load ! (from ! (stop !)) (look ! 21 refl))
+        (and-then ! (load ! (from ! (stop !)) (look ! 15 refl)) (and-then ! (load ! (from ! (stop !)) (look ! 11 refl))
+        (and-then ! (load ! (from ! (stop !)) (look ! 25 refl)) (and-then ! (load ! (from ! (stop !)) (look ! 7 refl)) (no-more !))))))) (λ u.
+        use1 W (later (some (λ (r : Stepped). (tokens ⊛ ‵ (S.the-row .own r (u ∷ [])))
+        ⊛ raw (ensured 𝓤 H A step.ended (step.clauses 𝓤 H A at-mem run) κs′ passed tt r)))) (id⊢ 𝓤 _) $ await ! tt $ pick ! (λ r.
         split ! $ move ! (1 ∷ []) $ use1 W (some (λ (zs : Fins). ‵ (lasts step.ended κs′ passed zs) ⊛ raw (fact 𝓤 (Told r zs)))) (id⊢ 𝓤 _) $ pick ! (λ zs.
         split ! $ move ! (1 ∷ []) $ heard ! (Told r zs) (λ e.
         -- the last words of the three slices
@@ -302,20 +324,24 @@ module _ {M : Type 1} (𝓤 : URA M) (H : Heap 𝓤) (A : Atoms 𝓤) (W : Given
         land ! (from ! (stop !)) (init ! 23 refl (answer-typed r u told)) $
         -- `clock_after`: the answer is copied, and what the clock owns is had anew
         use1 W (‵ (S.the-row .own r (u ∷ [])) ⊛ ‵ (S.the-row .own r (u ∷ []))) (EL.copy S.the-type S′.the-copy 𝓤 H A W .twice r (u ∷ [])) $ split ! $
-        nothing ! $ owned ! T.the-row (Is T.the-row) (LL.makes T.the-type T′.the-plain 𝓤 H A) h (mach ∷ []) is $ fjoin ! $ move ! (1 ∷ 0 ∷ []) $ fjoin ! $ nothing ! $
+        nothing ! $ owned ! T.the-row (Is T.the-row) (LL.makes T.the-type T′.the-plain 𝓤 H A) h (mach ∷ []) is $ fjoin ! $ move ! (1 ∷ 0 ∷ []) $ fjoin ! $
+        nothing ! $
         use2 W (raw (After 𝓤 H A at-mem run .pre (to-after r u))) (asked-after r u) $
         calls-at ! fm-c (After 𝓤 H A at-mem run) known-after (to-after r u)
         (and-then ! (load ! (from ! (stop !)) (look ! 24 refl)) (and-then ! (load ! (from ! (stop !)) (look ! 26 refl)) (no-more !))) (λ u′.
-        use1 W (later (some (λ (c : Clock). (‵ ftrue ⊛ ‵ (T.the-row .own c (u′ ∷ []))) ⊛ raw (ensured 𝓤 H A after.ended (after.clauses 𝓤 H A at-mem run) tt (r, (h, tt)) tt c)))) (id⊢ 𝓤 _) $ await ! tt $ pick ! (λ c.
+        use1 W (later (some (λ (c : Clock). (‵ ftrue ⊛ ‵ (T.the-row .own c (u′ ∷ [])))
+        ⊛ raw (ensured 𝓤 H A after.ended (after.clauses 𝓤 H A at-mem run) tt (r, (h, tt)) tt c)))) (id⊢ 𝓤 _) $ await ! tt $ pick ! (λ c.
         split ! $ move ! (1 ∷ []) $ use1 W (raw (fact 𝓤 (c ≡ clockAfter r h))) (after-said r c) $ heard ! (c ≡ clockAfter r h) (λ e′. split ! $ drop ! $
         peeks ! T.the-row (Is T.the-row) (shows 𝓤 H A T.the-row) c (u′ ∷ []) (λ is′.
         land ! (from ! (stop !)) (init ! 10 refl (clock-typed c u′ is′)) $
         -- the clock is written, and its borrow closed
-        assigns ! (of-opd ! (load ! (from ! (stop !)) (look ! 10 refl))) (from ! (hop ! (look ! 36 refl) (stop !))) (store-raw ! 6 refl (clock-typed c u′ is′)) $
+        assigns ! (of-opd ! (load ! (from ! (stop !)) (look ! 10 refl))) (from ! (hop ! (look ! 36 refl) (stop !)))
+        (store-raw ! 6 refl (clock-typed c u′ is′)) $
         assigns ! (of-opd ! (load ! (from ! (stop !)) (look ! 24 refl))) (from ! (stop !)) (init ! 40 refl (answer-typed r u told)) $
         move ! (6 ∷ 0 ∷ 7 ∷ 8 ∷ 9 ∷ []) $ closes ! tt T.the-row c (u′ ∷ []) b o $
         -- [obs; the borrow; the clock's token; the answer; the other tokens; the last words; _15; …; _0; …]
-        returns ! (look ! 38 refl) $ forget ! 8 refl $ forget ! 10 refl $ forget ! 12 refl $ forget ! 14 refl $ forget ! 16 refl $ forget ! 18 refl $ forget ! 20 refl $ forget ! 22 refl $
+        returns ! (look ! 38 refl) $ forget ! 8 refl $ forget ! 10 refl $ forget ! 12 refl $ forget ! 14 refl $ forget ! 16 refl $ forget ! 18 refl $
+        forget ! 20 refl $ forget ! 22 refl $
         forget ! 24 refl $ forget ! 26 refl $ forget ! 28 refl $ forget ! 30 refl $ forget ! 32 refl $ forget ! 34 refl $ forget ! 36 refl $ forget ! 38 refl $
         move ! (38 ∷ 39 ∷ []) $ free1 ! $ move ! (36 ∷ 37 ∷ []) $ free1 ! $ move ! (34 ∷ 35 ∷ []) $ free1 ! $ move ! (32 ∷ 33 ∷ []) $ free1 ! $
         move ! (30 ∷ 31 ∷ []) $ free1 ! $ move ! (28 ∷ 29 ∷ []) $ free1 ! $ move ! (26 ∷ 27 ∷ []) $ free1 ! $ move ! (24 ∷ 25 ∷ []) $ free1 ! $
@@ -326,7 +352,8 @@ module _ {M : Type 1} (𝓤 : URA M) (H : Heap 𝓤) (A : Atoms 𝓤) (W : Given
         (exits r u c zs (same₁, (same₂, same₃)) (lent-says (now file) h (now first) (now second) (now words) (now out) e e′)))))))))))))))))))))))))))))))))
 
 module _ {M : Type 1} (𝓤 : URA M) (H : Heap 𝓤) (A : Atoms 𝓤) (W : Given 𝓤 H A) (at-mem : Memory → SProp 𝓤) (run : Routine → Fun 𝓤) where
-  step-lent-walks : (C : Calls 𝓤 H) (Λ : Loops 𝓤 H) → FmC 𝓤 H (W .laws) C → Triple 𝓤 (C #step) (Step 𝓤 H A at-mem run) → Triple 𝓤 (C #clock-after) (After 𝓤 H A at-mem run)
+  step-lent-walks : (C : Calls 𝓤 H) (Λ : Loops 𝓤 H) → FmC 𝓤 H (W .laws) C → Triple 𝓤 (C #step) (Step 𝓤 H A at-mem run)
+      → Triple 𝓤 (C #clock-after) (After 𝓤 H A at-mem run)
       → Walks 𝓤 H A step-lent.ended stayed (WpFn 𝓤 H C Λ code.function) (step-lent.clauses 𝓤 H A at-mem run)
   step-lent-walks C Λ fm known-step known-after = walked 𝓤 H A step-lent.ended stayed (step-lent.clauses 𝓤 H A at-mem run) (WpFn 𝓤 H C Λ code.function)
       (λ κs. (slice-vals, (ptr-vals, (slice-vals, (slice-vals, (slice-vals, (slice-vals, tt)))))))

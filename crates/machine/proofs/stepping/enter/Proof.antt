@@ -11,12 +11,12 @@ use Rattle.machine.proofs.stepping.enter.Statement.{statement}
 use Rattle.machine.proofs.stepping.enter.Tie as tie
 
 abbrev Inv-loop : tie.InvT-loop
-Inv-loop first₀ shape clock words b₀ first b =
+Inv-loop shape clock words first₀ b₀ first b =
     (b ≤ shape .width) × (length first ≡ length first₀)
     × (first ≡ entering (cycles (shape .words) (shape .width)) clock words b first₀)
 
 abbrev μ-loop : tie.MeasureT-loop
-μ-loop first₀ shape clock words b₀ first b = shape .width - b
+μ-loop shape clock words first₀ b₀ first b = shape .width - b
 
 loop-holds : tie.Need-loop-holds Inv-loop μ-loop
 unfolding entering

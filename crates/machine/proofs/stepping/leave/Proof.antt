@@ -13,12 +13,12 @@ use Rattle.machine.proofs.stepping.leave.Statement.{statement}
 use Rattle.machine.proofs.stepping.leave.Tie as tie
 
 abbrev Inv-loop : tie.InvT-loop
-Inv-loop second shape clock out₀ other k₀ out k =
+Inv-loop shape clock second out₀ other k₀ out k =
     (k ≤ shape .width) × (length out ≡ length out₀)
     × (out ≡ overwrite k (leaving (cycles (shape .words) (shape .width)) clock second) out₀)
 
 abbrev μ-loop : tie.MeasureT-loop
-μ-loop second shape clock out₀ other k₀ out k = shape .width - k
+μ-loop shape clock second out₀ other k₀ out k = shape .width - k
 
 returns : tie.Need-returns Inv-loop μ-loop
 returns c = ifLt-yes _ _ _ _ _ (omega (arith, c .if1 .taken)) refl

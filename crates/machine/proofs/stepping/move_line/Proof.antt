@@ -1,146 +1,169 @@
--- `machine::stepping::move_line` meets its contract: turn k moves the word that bank k takes, and the banks that take are the banks that give.
-use Prim.Native.Nat.{_-_, _≤_}
-use mathlib.Core.Path.{_≡_, refl, sym, _∙_}
+-- `machine::stepping::move_line` meets its contract: with no frame held nothing is done; else the three tests are the definition's, in its
+-- order, and the words of a line that passes them move.
+use Prim.Native.Nat.{ℕ}
+use mathlib.Core.Path.{_≡_, sym, _∙_}
+use mathlib.Core.Bool.{Bool, false}
+use mathlib.Core.List.{List}
 use native.Mathlib.Omega.{arith}
 use borrow.Author.Needs.{needs}
-use lib.ListN.{length, getD, length-set}
-use Rattle.tables.specs.Terms.{cycles}
-use Rattle.tables.proofs.Within.{strays-within}
-use Rattle.machine.proofs.Stores.{stored}
-use Rattle.machine.proofs.Takes.{Takes, takeSpot, takenWord, stored-more, line-takes, banks-take}
+use Rattle.tables.specs.Datapath.{readStrays, carryStrays, writeStrays, strays}
+use Rattle.tables.proofs.Dims.{depth-reaches, lines-few}
+use Rattle.tables.proofs.Lined.{reads-stray, writes-stray, spare-strays}
+use Rattle.machine.proofs.Tests.{none-stray, line-stays, read-refused, carry-refused, write-refused, line-moves}
 use Rattle.machine.proofs.stepping.move_line.Statement.{statement}
 use Rattle.machine.proofs.stepping.move_line.Tie as tie
 
-abbrev Inv-loop : tie.InvT-loop
-Inv-loop first second₀ shape clock reads sources writes other k₀ second k =
-    (k ≤ shape .width) × (length second ≡ length second₀)
-    × (second ≡ stored (takeSpot (cycles (shape .words) (shape .width)) (clock .half) writes)
-    (takenWord (cycles (shape .words) (shape .width)) (clock .half) first reads sources) k second₀)
+-- the start, from where a frame is held, where the line is found and where each test is passed
+abbrev start1 : tie.Else1 → tie.Start
+start1 c = c .before .before .before .before .before
 
-abbrev μ-loop : tie.MeasureT-loop
-μ-loop first second₀ shape clock reads sources writes other k₀ second k = shape .width - k
+abbrev found : tie.After-any-from → tie.After-line-at
+found c = c .before .before .before .before .before .before
 
--- what the line was found to do
-takes : (s : tie.Start Inv-loop μ-loop)
-    → Takes (s .args .shape .words) (s .args .shape .width) (s .args .reads .now) (s .args .sources .now) (s .args .writes .now)
-takes s =
-    line-takes
-    (strays-within (s .args .shape .words) (s .args .shape .width) (s .pre .1 .1 .0) (s .args .clock .cycle) (s .pre .1 .1 .2))
-    (s .pre .1 .1 .1)
+abbrev held : tie.After-line-at → tie.Else1
+held c = c .before .before .before .before .before
 
-sub-other : tie.Need-sub-other Inv-loop μ-loop
-sub-other c = search needs
+abbrev found2 : tie.After-spare-used → tie.After-line-at
+found2 c = found (c .before .before .before)
 
-loop-holds : tie.Need-loop-holds Inv-loop μ-loop
-unfolding stored
-loop-holds c = (omega arith, refl, refl)
+abbrev found3 : tie.After-any-from2 → tie.After-line-at
+found3 c = found2 (c .before .before .before)
 
-shared-slice-read-b : tie.Need-shared-slice-read-b Inv-loop μ-loop
-shared-slice-read-b c = search needs
+abbrev line-start : tie.After-line-at → tie.Start
+line-start c = start1 (held c)
 
-cast-b : tie.Need-cast-b Inv-loop μ-loop
-cast-b c = omega (arith, c .shared-slice-known5 .given (c .before .before .before .loop .k))
+-- a test of the step's own line
+abbrev own : (ℕ → ℕ → List ℕ → ℕ → Bool) → tie.Start → Bool
+own test s = test (s .args .shape .words) (s .args .shape .width) (s .args .file .now) (s .args .clock .cycle)
 
-mul-spot-of : tie.Need-mul-spot-of Inv-loop μ-loop
-mul-spot-of c = omega (arith, c .shared-slice-known5 .given (c .before .before .before .loop .k))
+-- what each test says
+reads-told : (c : tie.After-any-from) {b : Bool} → c .any-from .result ≡ b → own readStrays (line-start (found c)) ≡ b
+reads-told c e =
+    sym (reads-stray (found c .line-at .ensures .1)) ∙ rw (line-start (found c) .pre .0 .0 .cycles) at (sym (c .any-from .ensures) ∙ e)
 
-shared-slice-read-spot-of : tie.Need-shared-slice-read-spot-of Inv-loop μ-loop
-shared-slice-read-spot-of c =
-    let s = c .before .before .before .before .before .before .before .before .before .before .before in
-    omega (arith, takes s .sources-below (c .before .before .before .before .loop .k) (c .before .before .if1 .taken), takes s .reads-long, s .pre .0 .dims .narrow)
+carries-told : (c : tie.After-spare-used) {b : Bool} → c .spare-used .result ≡ b → own carryStrays (line-start (found2 c)) ≡ b
+carries-told c e =
+    sym (spare-strays (found2 c .line-at .ensures .1)) ∙ rw (line-start (found2 c) .pre .0 .0 .lines) at (sym (c .spare-used .ensures) ∙ e)
 
-cast-spot-of : tie.Need-cast-spot-of Inv-loop μ-loop
-cast-spot-of c = omega (arith, c .shared-slice-known6 .given (getD (c .before .before .before .before .before .before .before .before .before .before .before .args .sources .now) (c .before .before .before .before .loop .k) 0))
+writes-told : (c : tie.After-any-from2) {b : Bool} → c .any-from2 .result ≡ b → own writeStrays (line-start (found3 c)) ≡ b
+writes-told c e =
+    sym (writes-stray (found3 c .line-at .ensures .1)) ∙ rw (line-start (found3 c) .pre .0 .0 .cycles) at (sym (c .any-from2 .ensures) ∙ e)
 
-spot-of-requires : tie.Need-spot-of-requires Inv-loop μ-loop
-spot-of-requires c κs =
-    let s = c .before .before .before .before .before .before .before .before .before .before .before in
-    let bank = takes s .sources-below (c .before .before .before .before .loop .k) (c .before .before .if1 .taken) in
-    (s .pre .0, (omega arith, bank, takes s .reads-below (getD (s .args .sources .now) (c .before .before .before .before .loop .k) 0) bank))
+none : (c : tie.Else4) → own strays (line-start (found3 (c .before))) ≡ false
+none c =
+    let three = c .before .before .before in
+    let two = three .before .before .before in
+    none-stray _ _ _ _ (reads-told (two .before) (two .if2 .left)) (carries-told (three .before) (three .if3 .left))
+    (writes-told (c .before) (c .if4 .left))
 
-mul-spot-of-2 : tie.Need-mul-spot-of-2 Inv-loop μ-loop
-mul-spot-of-2 c = search needs
+returns : tie.Need-returns
+returns c = line-stays _ _ _ _ _ _ (c .if1 .taken)
 
-shared-slice-read-spot-of-2 : tie.Need-shared-slice-read-spot-of-2 Inv-loop μ-loop
-shared-slice-read-spot-of-2 c = search needs
+slice-aggregate-line-at : tie.Need-slice-aggregate-line-at
+slice-aggregate-line-at c = search needs
 
-cast-spot-of-2 : tie.Need-cast-spot-of-2 Inv-loop μ-loop
-cast-spot-of-2 c = omega (arith, c .shared-slice-known7 .given (c .before .before .before .before .before .before .loop .k))
+slice-aggregate-line-at-2 : tie.Need-slice-aggregate-line-at-2
+slice-aggregate-line-at-2 c = search needs
 
-spot-of-requires-2 : tie.Need-spot-of-requires-2 Inv-loop μ-loop
-spot-of-requires-2 c κs =
-    let s = c .before .before .before .before .before .before .before .before .before .before .before .before .before in
-    (s .pre .0, (s .pre .1 .0 .2, c .before .before .before .before .if1 .taken, takes s .writes-below (c .before .before .before .before .before .before .loop .k) (c .before .before .before .before .if1 .taken)))
+slice-aggregate-line-at-3 : tie.Need-slice-aggregate-line-at-3
+slice-aggregate-line-at-3 c = search needs
 
-mul-second : tie.Need-mul-second Inv-loop μ-loop
-mul-second c = search needs
+slice-aggregate-line-at-4 : tie.Need-slice-aggregate-line-at-4
+slice-aggregate-line-at-4 c = search needs
 
-shared-slice-read-second : tie.Need-shared-slice-read-second Inv-loop μ-loop
-shared-slice-read-second c = search needs
+line-at-requires : tie.Need-line-at-requires
+line-at-requires c κs = search needs
 
-mul-second-2 : tie.Need-mul-second-2 Inv-loop μ-loop
-mul-second-2 c = search needs
+slice-aggregate-any-from : tie.Need-slice-aggregate-any-from
+slice-aggregate-any-from c = search needs
 
-slice-write-second : tie.Need-slice-write-second Inv-loop μ-loop
-slice-write-second c = omega (arith, c .before .spot-of2 .ensures .1, c .before .before .before .before .before .before .before .before .loop .inv .1, c .before .before .before .before .before .before .before .before .before .before .before .before .before .before .before .pre .1 .0)
+any-from-requires : tie.Need-any-from-requires
+any-from-requires c κs = search needs
 
-add-k : tie.Need-add-k Inv-loop μ-loop
-add-k c = search needs
+returns-2 : tie.Need-returns-2
+returns-2 c = read-refused _ _ _ _ _ _ (held (found (c .before)) .if1 .left) (reads-told (c .before) (c .if2 .taken))
 
-loop-less : tie.Need-loop-less Inv-loop μ-loop
-loop-less c = omega arith
+slice-aggregate-spare-used : tie.Need-slice-aggregate-spare-used
+slice-aggregate-spare-used c = search needs
 
-loop-again : tie.Need-loop-again Inv-loop μ-loop
-loop-again c =
-    let s = c .before .before .before .before .before .before .before .before .before .before .before .before .before .before .before in
-    let l = c .before .before .before .before .before .before .before .before .loop in
-    let n = s .args .shape .words in
-    let w = s .args .shape .width in (
-      omega arith,
-      simp length-set (l .inv .1),
-      rw (l .inv .2, c .before .spot-of2 .ensures .0, c .before .before .before .spot-of .ensures .0)
-          (stored-more (takeSpot (cycles n w) (s .args .clock .half) (s .args .writes .now))
-          (takenWord (cycles n w) (s .args .clock .half) (s .args .first .now) (s .args .reads .now) (s .args .sources .now)) (l .k)
-          (s .args .second .now)),
-    )
+spare-used-requires : tie.Need-spare-used-requires
+spare-used-requires c κs =
+    let line = found (c .before .before) in
+    let s = line-start line in
+    let v = s .pre .0 .0 .lines in
+    (rw v (depth-reaches (s .args .shape .width)), omega (arith, line .line-at .ensures .1 .carrying .long, v, lines-few (s .pre .0 .0 .dims)))
 
-same-length : tie.Need-same-length Inv-loop μ-loop
-same-length c = c .before .before .loop .inv .1
+returns-3 : tie.Need-returns-3
+returns-3 c =
+    let two = c .before .before .before in
+    carry-refused _ _ _ _ _ _ (held (found2 (c .before)) .if1 .left) (reads-told (two .before) (two .if2 .left))
+    (carries-told (c .before) (c .if3 .taken))
 
-returns : tie.Need-returns Inv-loop μ-loop
-returns c =
-    let s = c .before .before .before .before .before .before .before .before .before in
-    let all : c .before .before .loop .k ≡ s .args .shape .width = omega arith in
-    λ file line within.
-    rw all at (c .before .before .loop .inv .2)
-    ∙ sym (banks-take (s .args .clock) (s .pre .1 .0 .2)
-    (strays-within (s .args .shape .words) (s .args .shape .width) file (s .args .clock .cycle) within) line (s .args .first .now)
-    (s .args .second .now))
+slice-aggregate-any-from-2 : tie.Need-slice-aggregate-any-from-2
+slice-aggregate-any-from-2 c = search needs
+
+any-from-requires-2 : tie.Need-any-from-requires-2
+any-from-requires-2 c κs = search needs
+
+returns-4 : tie.Need-returns-4
+returns-4 c =
+    let three = c .before .before .before in
+    let two = three .before .before .before in
+    write-refused _ _ _ _ _ _ (held (found3 (c .before)) .if1 .left) (reads-told (two .before) (two .if2 .left))
+    (carries-told (three .before) (three .if3 .left)) (writes-told (c .before) (c .if4 .taken))
+
+slice-aggregate-move-words : tie.Need-slice-aggregate-move-words
+slice-aggregate-move-words c = search needs
+
+slice-aggregate-move-words-2 : tie.Need-slice-aggregate-move-words-2
+slice-aggregate-move-words-2 c = search needs
+
+slice-aggregate-move-words-3 : tie.Need-slice-aggregate-move-words-3
+slice-aggregate-move-words-3 c = search needs
+
+move-words-requires : tie.Need-move-words-requires
+move-words-requires c κs =
+    let four = c .before .before .before .before in
+    let line = found3 (four .before) in
+    let s = line-start line in
+    (s .pre .0 .0, ((s .pre .1 .0, s .pre .1 .1, s .pre .0 .1 .half), (s .args .file .now, line .line-at .ensures .1, none four)))
+
+same-length : tie.Need-same-length
+same-length c = search needs
+
+returns-5 : tie.Need-returns-5
+returns-5 c =
+    let moved = c .before .before in
+    let four = moved .before .before .before .before .before in
+    let three = four .before .before .before in
+    let two = three .before .before .before in
+    let line = found3 (four .before) in
+    let s = line-start line in
+    line-moves _ _ _ _ _ _ (held line .if1 .left) (reads-told (two .before) (two .if2 .left)) (carries-told (three .before) (three .if3 .left))
+    (writes-told (four .before) (four .if4 .left)) (moved .move-words .ensures (s .args .file .now) (line .line-at .ensures .1) (none four))
 
 pub move-line-spec : {M : Type 1} → statement M
 move-line-spec =
     tie.close
     (tie.spec
-    Inv-loop
-    μ-loop
-    sub-other
-    loop-holds
-    shared-slice-read-b
-    cast-b
-    mul-spot-of
-    shared-slice-read-spot-of
-    cast-spot-of
-    spot-of-requires
-    mul-spot-of-2
-    shared-slice-read-spot-of-2
-    cast-spot-of-2
-    spot-of-requires-2
-    mul-second
-    shared-slice-read-second
-    mul-second-2
-    slice-write-second
-    add-k
-    loop-less
-    loop-again
+    returns
+    slice-aggregate-line-at
+    slice-aggregate-line-at-2
+    slice-aggregate-line-at-3
+    slice-aggregate-line-at-4
+    line-at-requires
+    slice-aggregate-any-from
+    any-from-requires
+    returns-2
+    slice-aggregate-spare-used
+    spare-used-requires
+    returns-3
+    slice-aggregate-any-from-2
+    any-from-requires-2
+    returns-4
+    slice-aggregate-move-words
+    slice-aggregate-move-words-2
+    slice-aggregate-move-words-3
+    move-words-requires
     same-length
-    returns)
+    returns-5)
