@@ -14,7 +14,8 @@ use Rattle.laws.proofs.Choices.{ifLt-no, ifLe-no, ifLt-cases, ifLe-cases, ifEq-
 use Rattle.refusal.specs.declared.Refusal.{Refusal}
 use Rattle.refusal.specs.declared.Refusal.the-variants.{BufferShort, WordCount, ClockRange, ReadAddress, SpareLine, WriteAddress}
 use Rattle.tables.specs.Terms.{cycles}
-use Rattle.tables.specs.Format.{headerWords, headerWidth, shapeOf, openOf}
+use Rattle.tables.specs.Header.{headerWords, headerWidth}
+use Rattle.tables.specs.Format.{shapeOf, openOf}
 use Rattle.tables.specs.Datapath.{readStrays, carryStrays, writeStrays, strays}
 use Rattle.tables.specs.declared.Opened.the-variants.{Set}
 use Rattle.tables.proofs.Dims.{Dims}
