@@ -5,36 +5,26 @@ use mathlib.Core.List.{List}
 use native.Mathlib.Omega.{arith}
 use lib.ListN.{length}
 use Rattle.laws.specs.Choice.{ifLt}
-use Rattle.laws.specs.Permutation.{Permutes}
 use Rattle.laws.proofs.Choices.{ifLt-no, ifLt-cases}
 use Rattle.refusal.specs.declared.Refusal.{Refusal}
-use Rattle.images.specs.Images.{orderOf}
 use Rattle.images.specs.declared.Checked.{Checked}
 use Rattle.images.specs.declared.Checked.the-variants.{Permutation, Refused}
 use Rattle.images.proofs.Exact.{not-refused, check-permutes, permutes-check}
-use Rattle.tables.specs.Terms.{Dims, fileLength}
+use Rattle.tables.specs.Terms.{fileLength}
 use Rattle.tables.proofs.LimitTests.{limit-cases, limit-passes}
-use Rattle.generator.specs.Generating.{scratchNeed, lentTest, checksOf, outcome, Filled, Generates}
+use Rattle.generator.specs.Generating.{scratchNeed, Generable, lentTest, checksOf, outcome, Filled, Generates}
 use Rattle.generator.specs.declared.Generation.the-variants.{Written, Refused as Unmade}
-
--- n and w keep their limits, enough memory is lent, and the images are a permutation
-pub record Passed (n w : ℕ) (images : List ℕ) (room scratch : ℕ) : Type 0 where
-  pub dims : Dims n w
-  pub listed : n ≤ length images
-  pub roomy : fileLength n w ≤ room
-  pub spacious : scratchNeed n ≤ scratch
-  pub permutes : Permutes n (orderOf n images)
 
 module _ (n w : ℕ) (images : List ℕ) (room scratch : ℕ) where
   -- what follows from a test that passes
   Leads : Checked → Type 0
-  Leads x = x ≡ Permutation → Passed n w images room scratch
+  Leads x = x ≡ Permutation → Generable n w images room scratch
 
   turned : (r : Refusal) → Leads (Refused r)
   unfolding Leads
   turned r e = absurd (not-refused r e)
 
-  pub checks-passed : checksOf n w images room scratch ≡ Permutation → Passed n w images room scratch
+  pub checks-passed : checksOf n w images room scratch ≡ Permutation → Generable n w images room scratch
   unfolding checksOf lentTest Leads
   checks-passed =
       limit-cases Leads n w Refused _ turned λ dims.
@@ -44,7 +34,7 @@ module _ (n w : ℕ) (images : List ℕ) (room scratch : ℕ) where
       record { dims = dims; listed = listed; roomy = roomy; spacious = spacious; permutes = check-permutes images n e }
 
 -- and nothing else is turned down
-pub passed-checks : {n w : ℕ} {images : List ℕ} {room scratch : ℕ} → Passed n w images room scratch
+pub passed-checks : {n w : ℕ} {images : List ℕ} {room scratch : ℕ} → Generable n w images room scratch
     → checksOf n w images room scratch ≡ Permutation
 unfolding checksOf lentTest
 passed-checks {n} {w} {images} K =
@@ -52,7 +42,7 @@ passed-checks {n} {w} {images} K =
     ∙ sym (ifLt-no _ _ _ _ _ (K .listed) (ifLt-no _ _ _ _ _ (K .roomy) (ifLt-no _ _ _ _ _ (K .spacious)
     (sym (permutes-check images n (K .permutes))))))
 
-pub scratch-enough : {n w : ℕ} {images : List ℕ} {room scratch : ℕ} → Passed n w images room scratch → n ≤ scratch
+pub scratch-enough : {n w : ℕ} {images : List ℕ} {room scratch : ℕ} → Generable n w images room scratch → n ≤ scratch
 unfolding scratchNeed
 scratch-enough K = omega (arith, K .spacious)
 

@@ -9,7 +9,8 @@ use Rattle.refusal.specs.declared.Refusal.the-variants.{BufferShort}
 use Rattle.images.specs.declared.Checked.{Checked}
 use Rattle.images.specs.declared.Checked.the-variants.{Permutation, Refused}
 use Rattle.images.specs.Images.{checkOf, orderOf}
-use Rattle.tables.specs.Terms.{fileLength, limitTest}
+use Rattle.laws.specs.Permutation.{Permutes}
+use Rattle.tables.specs.Terms.{Dims, fileLength, limitTest}
 use Rattle.tables.specs.Generated.{Schedule, setOf}
 use Rattle.generator.specs.declared.Generation.{Generation}
 use Rattle.generator.specs.declared.Generation.the-variants.{Written, Refused as Unmade}
@@ -17,6 +18,14 @@ use Rattle.generator.specs.declared.Generation.the-variants.{Written, Re
 -- the scratch words that are asked for
 unfoldable pub scratchNeed : ℕ → ℕ
 scratchNeed n = 4 * n + 1024
+
+-- what a set can be generated from: n and w keep their limits, enough memory is lent, and the images are a permutation
+pub record Generable (n w : ℕ) (images : List ℕ) (room scratch : ℕ) : Type 0 where
+  pub dims : Dims n w
+  pub listed : n ≤ length images
+  pub roomy : fileLength n w ≤ room
+  pub spacious : scratchNeed n ≤ scratch
+  pub permutes : Permutes n (orderOf n images)
 
 -- "12, then 4 and 5 by rising i", with so many bytes for the file and so many scratch words
 unfoldable pub lentTest : ℕ → ℕ → List ℕ → ℕ → ℕ → Checked

@@ -1,11 +1,8 @@
--- Demand 3, the machine: for every permutation of n words and every width that divides n a set is generated, and over any list of steps on
--- it, refused ones included, the cycle machine and the plain rule show the same. All over `Generates`, which the contract of
--- `generator::generate` cites, and `machine`, which is made of `stepOf`, which the contract of `machine::step` cites.
+-- Demand 3 holds: a set is generated, it opens and performs its permutation, and a machine on such a set is the plain rule.
 use Prim.Native.Nat.{ℕ, _*_, _≤_}
 use mathlib.Core.Path.{_≡_, refl, sym, ap, subst, _∙_}
 use mathlib.Core.List.{List, [], _∷_, _++_}
 use lib.ListN.{length, take, drop}
-use Rattle.laws.specs.Tabulate.{overwrite}
 use Rattle.images.specs.Images.{orderOf}
 use Rattle.tables.specs.Terms.{fileLength}
 use Rattle.tables.specs.Generated.{setOf}
@@ -19,10 +16,10 @@ use Rattle.machine.specs.LentClock.{lentMachine}
 use Rattle.machine.specs.Plain.{plain, empty}
 use Rattle.machine.proofs.LentClock.{lent-run}
 use Rattle.machine.proofs.Theorem.{machine-is-plain, generated-is-plain}
-use Rattle.generator.specs.Generating.{Filled, Generates}
-use Rattle.generator.proofs.Checking.{Passed, passed-checks}
-use Rattle.generator.specs.declared.Generation.{Generation}
+use Rattle.generator.specs.Generating.{Filled}
+use Rattle.generator.proofs.Checking.{passed-checks}
 use Rattle.generator.specs.declared.Generation.the-variants.{Written}
+use Rattle.promises.specs.Demand3.{Streaming, StreamingLent}
 
 -- every set that reads as some permutation, lent exactly: over any list of steps, from a fresh clock and two memories of 2n words or more
 -- that hold anything, the machine is the plain rule for that permutation
@@ -32,24 +29,6 @@ pub sets-stream : (file images scratch images′ : List ℕ) {n w : ℕ} → rea
 sets-stream file images scratch images′ {n} h =
     let known = read-performs file images scratch h in
     machine-is-plain file (orderOf n images′) (known .opened) (known .performs)
-
--- what the answer of generating and the lent file afterwards are good for
-pub record Good (n w : ℕ) (images : List ℕ) (answer : Generation) (made : List ℕ) : Type 0 where
-  -- a set is generated; `made` is as many bytes as the answer says
-  pub accepted : answer ≡ Written (length made)
-  pub long : length made ≡ fileLength n w
-  -- it reads as the permutation
-  pub reads : (out scratch : List ℕ) → n ≤ length out → 2 * n ≤ length scratch
-      → readOf made out scratch ≡ readAs n w made (overwrite n (orderOf n images) out)
-  -- and over any list of steps, from a fresh clock and two memories of 2n words or more that hold anything, the machine is the plain rule
-  pub streams : (first second : List ℕ) → 2 * n ≤ length first → 2 * n ≤ length second → (steps : List Feed)
-      → run (machine made) (record { clock = fresh; first = first; second = second }) steps ≡ run (plain n w (orderOf n images)) empty steps
-
--- `Passed` says that n and w keep their limits, the images are a permutation, and the memory that generating needs is lent
-abbrev pub Streaming : Type 0
-Streaming = (n w : ℕ) (images file scratch : List ℕ) (answer : Generation) (file′ scratch′ : List ℕ)
-    → Passed n w images (length file) (length scratch) → Generates n w images file scratch answer file′ scratch′
-    → Good n w images answer (take (fileLength n w) file′)
 
 -- the front of two lists
 take-front : (xs ys : List ℕ) → take (length xs) (xs ++ ys) ≡ xs
@@ -84,13 +63,6 @@ pub sets-stream-lent : (file images scratch images′ : List ℕ) {n w : ℕ} �
     → run (lentMachine file) (record { clock = fresh; first = first; second = second }) steps ≡ run (plain n w (orderOf n images′)) empty steps
 sets-stream-lent file images scratch images′ h first second long long′ steps =
     lent-run file _ steps ∙ sets-stream file images scratch images′ h first second long long′ steps
-
-abbrev pub StreamingLent : Type 0
-StreamingLent = (n w : ℕ) (images file scratch : List ℕ) (answer : Generation) (file′ scratch′ : List ℕ)
-    → Passed n w images (length file) (length scratch) → Generates n w images file scratch answer file′ scratch′
-    → (first second : List ℕ) → 2 * n ≤ length first → 2 * n ≤ length second → (steps : List Feed)
-    → run (lentMachine (take (fileLength n w) file′)) (record { clock = fresh; first = first; second = second }) steps
-    ≡ run (plain n w (orderOf n images)) empty steps
 
 pub demand-3-lent : StreamingLent
 demand-3-lent n w images file scratch answer file′ scratch′ R G first second long long′ steps =

@@ -18,14 +18,14 @@ use Rattle.tables.specs.Reading.{readOutcome, readAs, readOf}
 use Rattle.tables.specs.declared.Reading.the-variants.{Refused as Unread}
 use Rattle.machine.specs.Devices.{Feed, feed, Seen, seen, filling, wrote, After, run}
 use Rattle.machine.specs.Plain.{Row, empty, given, took, plain}
-use Rattle.generator.specs.Generating.{Generates}
+use Rattle.generator.specs.Generating.{Generable, Generates}
 use Rattle.generator.specs.declared.Generation.{Generation}
 use Rattle.generator.specs.declared.Generation.the-variants.{Written, Refused as Unmade}
-use Rattle.generator.proofs.Checking.{Passed, passed-checks}
+use Rattle.generator.proofs.Checking.{passed-checks}
 use Rattle.promises.proofs.Demand3.{demand-3}
 
 module _ {n w : ℕ} {images file scratch : List ℕ} {answer : Generation} {file′ scratch′ : List ℕ}
-    (R : Passed n w images (length file) (length scratch)) (G : Generates n w images file scratch answer file′ scratch′) where
+    (R : Generable n w images (length file) (length scratch)) (G : Generates n w images file scratch answer file′ scratch′) where
   -- a generator that turns down all or hard permutations
   pub none-turned-down : (r : Refusal) → answer ≡ Unmade r → ⊥
   none-turned-down r e = let q : Written (fileLength n w) ≡ Unmade r = sym (G .generated (passed-checks R) .0) ∙ e in

@@ -9,9 +9,9 @@ use Rattle.images.specs.Images.{orderOf}
 use Rattle.tables.specs.Terms.{cycles, fileLength}
 use Rattle.tables.specs.Generated.{setOf}
 use Rattle.tables.proofs.Prefix.{setOf-ext}
-use Rattle.generator.specs.Generating.{Generates}
+use Rattle.generator.specs.Generating.{Generable, Generates}
 use Rattle.generator.specs.declared.Generation.{Generation}
-use Rattle.generator.proofs.Checking.{Passed, passed-checks}
+use Rattle.generator.proofs.Checking.{passed-checks}
 use Rattle.promises.proofs.Demand3.{front}
 
 -- the read lines of a frame of one cycle
@@ -19,7 +19,7 @@ unfoldable pub noReads : ℕ → ℕ → ℕ
 noReads t b = 0
 
 pub one-cycle : (n w : ℕ) (images file scratch : List ℕ) (answer : Generation) (file′ scratch′ : List ℕ) → cycles n w ≡ 1
-    → Passed n w images (length file) (length scratch) → Generates n w images file scratch answer file′ scratch′
+    → Generable n w images (length file) (length scratch) → Generates n w images file scratch answer file′ scratch′
     → take (fileLength n w) file′ ≡ setOf n w (orderOf n images) noReads
 unfolding noReads
 one-cycle n w images file scratch answer file′ scratch′ single R G =

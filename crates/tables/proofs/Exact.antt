@@ -18,7 +18,7 @@ use Rattle.tables.specs.Terms.{cycles}
 use Rattle.tables.specs.Header.{headerWords, headerWidth}
 use Rattle.tables.specs.Format.{shapeOf, openOf}
 use Rattle.tables.specs.Datapath.{Performs}
-use Rattle.tables.specs.Reading.{readOutcome, contentsOf, readAs, scanLines, imageOf, readLines, readOpened, readOf}
+use Rattle.tables.specs.Reading.{readOutcome, contentsOf, readAs, Performed, Answered, scanLines, imageOf, readLines, readOpened, readOf}
 use Rattle.tables.specs.Generated.{Schedule, setOf}
 use Rattle.tables.specs.declared.Opened.the-variants.{Set, Refused}
 use Rattle.tables.specs.declared.Contents.{Contents}
@@ -73,31 +73,17 @@ module _ (file images scratch : List ℕ) where
 
   -- ---- and only that
 
-  -- what a reading tells that is accepted as n words of width w, with the images `after`
-  pub record Performed (n w : ℕ) (after : List ℕ) : Type 0 where
-    pub opened : openOf file ≡ Set (shapeOf n w)
-    pub room : n ≤ length images
-    pub scratch-room : 2 * n ≤ length scratch
-    pub performs : Performs n w file (λ i. getD after i 0)
-    pub written : after ≡ overwrite n (λ i. getD after i 0) images
-
-  -- a reading is accepted with a permutation that is performed, or it is a refusal and the images stay
-  abbrev pub Answered : Type 0
-  Answered =
-      ((n : ℕ) × (w : ℕ) × (after : List ℕ) × (readOf file images scratch ≡ readAs n w file after) × Performed n w after)
-      ⊎ ((r : Refusal) × (readOf file images scratch ≡ readOutcome (Unread r) images))
-
-  pub read-cases : Answered
+  pub read-cases : Answered file images scratch
   read-cases =
       ⊎-elim (λ r. formed (headerWords file) (headerWidth file) (r .0) (r .1 .dims)) (λ r. inr (r .0, read-unopened (r .0) (r .1)))
       (open-cases file)
     where
-      scanned : (n w : ℕ) → openOf file ≡ Set (shapeOf n w) → Dims n w → n ≤ length images → 2 * n ≤ length scratch → Answered
+      scanned : (n w : ℕ) → openOf file ≡ Set (shapeOf n w) → Dims n w → n ≤ length images → 2 * n ≤ length scratch → Answered file images scratch
       scanned n w h D l m =
           let f : ℕ → ℕ = imageOf n w file in
           let after : List ℕ = overwrite n f images in
           let same : (i : ℕ) → i < n → f i ≡ getD after i 0 = λ i q. sym (getD-overwrite n f images i 0 q) in
-          let performed : Accepted n w file → Performed n w after = λ A. record {
+          let performed : Accepted n w file → Performed file images scratch n w after = λ A. record {
             opened = h;
             room = l;
             scratch-room = m;
@@ -107,28 +93,28 @@ module _ (file images scratch : List ℕ) where
           ⊎-elim (λ r. inl (n, w, after, read-scan n w h l m ∙ r .0, performed (r .1))) (λ r. inr (r .0, read-scan n w h l m ∙ r .1))
           (scan-cases n w file (λ r. readOutcome (Unread r) images) (readAs n w file after))
 
-      formed : (n w : ℕ) → openOf file ≡ Set (shapeOf n w) → Dims n w → Answered
+      formed : (n w : ℕ) → openOf file ≡ Set (shapeOf n w) → Dims n w → Answered file images scratch
       formed n w h D = ⊎-elim (λ e. inr (BufferShort, e)) (λ r. scanned n w h D (r .0) (r .1)) (read-room n w h)
 
   -- an accepted reading has written what the datapath performs
-  pub read-performs : {n w : ℕ} {after : List ℕ} → readOf file images scratch ≡ readAs n w file after → Performed n w after
+  pub read-performs : {n w : ℕ} {after : List ℕ} → readOf file images scratch ≡ readAs n w file after → Performed file images scratch n w after
   read-performs {n} {w} {after} h = ⊎-elim accepted (λ r. let z : _≡_ {A = ℕ} 0 1 = cc (r .1) in absurd (omega arith)) read-cases
     where
-      accepted : (m : ℕ) × (v : ℕ) × (out : List ℕ) × (readOf file images scratch ≡ readAs m v file out) × Performed m v out
-          → Performed n w after
+      accepted : (m : ℕ) × (v : ℕ) × (out : List ℕ) × (readOf file images scratch ≡ readAs m v file out) × Performed file images scratch m v out
+          → Performed file images scratch n w after
       accepted r =
           let contents : contentsOf (r .0) (r .1) file ≡ contentsOf n w file = cc (r .3) in
           let words : r .0 ≡ n = ap (λ (c : Contents). c .words) contents in
           let width : r .1 ≡ w = ap (λ (c : Contents). c .width) contents in
-          let images : r .2 ≡ after = cc (r .3) in
-          subst₃ Performed words width images (r .4)
+          let given : r .2 ≡ after = cc (r .3) in
+          subst₃ (Performed file images scratch) words width given (r .4)
 
   -- where no permutation is performed, the answer is a refusal and the images stay
   pub read-refuses : {n w : ℕ} → openOf file ≡ Set (shapeOf n w) → ((p : ℕ → ℕ) → Performs n w file p → ⊥)
       → (r : Refusal) × (readOf file images scratch ≡ readOutcome (Unread r) images)
   read-refuses {n} {w} h none = ⊎-elim accepted (λ r. r) read-cases
     where
-      accepted : (m : ℕ) × (v : ℕ) × (after : List ℕ) × (readOf file images scratch ≡ readAs m v file after) × Performed m v after
+      accepted : (m : ℕ) × (v : ℕ) × (after : List ℕ) × (readOf file images scratch ≡ readAs m v file after) × Performed file images scratch m v after
           → (r : Refusal) × (readOf file images scratch ≡ readOutcome (Unread r) images)
       accepted r =
           let P : Performs (r .0) (r .1) file (λ i. getD (r .2) i 0) = r .4 .performs in

@@ -4,7 +4,8 @@ use borrow.Author.Needs.{needs}
 use lib.ListN.{length}
 use Rattle.images.specs.declared.Checked.the-variants.{Permutation}
 use Rattle.generator.specs.Generating.{checksOf}
-use Rattle.generator.proofs.Checking.{Passed, checks-passed, scratch-enough, generates-refused, generates-made}
+use Rattle.generator.specs.Generating.{Generable}
+use Rattle.generator.proofs.Checking.{checks-passed, scratch-enough, generates-refused, generates-made}
 use Rattle.generator.proofs.generating.generate.Statement.{statement}
 use Rattle.generator.proofs.generating.generate.Tie as tie
 
@@ -25,7 +26,7 @@ told c = sym (c .before .before .checks .ensures) ∙ c .enum-told .given .1
 
 passed : (c : tie.After-enum-told)
     → let s = c .before .before .before .before .before .before in
-    Passed (s .args .n) (s .args .w) (s .args .images .now) (length (s .args .file .now)) (length (s .args .scratch .now))
+    Generable (s .args .n) (s .args .w) (s .args .images .now) (length (s .args .file .now)) (length (s .args .scratch .now))
 passed c = checks-passed _ _ _ _ _ (told c)
 
 make-requires : tie.Need-make-requires

@@ -1,0 +1,46 @@
+-- Demand 3, the machine: for every permutation of n words and every width that divides n a set is generated, and over any list of steps on
+-- it, refused ones included, the cycle machine and the plain rule show the same. All over `Generates`, which the contract of
+-- `generator::generate` cites, and `machine`, which is made of `stepOf`, which the contract of `machine::step` cites.
+use Prim.Native.Nat.{ℕ, _*_, _≤_}
+use mathlib.Core.Path.{_≡_}
+use mathlib.Core.List.{List}
+use lib.ListN.{length, take}
+use Rattle.laws.specs.Tabulate.{overwrite}
+use Rattle.images.specs.Images.{orderOf}
+use Rattle.tables.specs.Terms.{fileLength}
+use Rattle.tables.specs.Reading.{readAs, readOf}
+use Rattle.machine.specs.Devices.{Feed, run}
+use Rattle.machine.specs.Step.{fresh}
+use Rattle.machine.specs.Machine.{machine}
+use Rattle.machine.specs.LentClock.{lentMachine}
+use Rattle.machine.specs.Plain.{plain, empty}
+use Rattle.generator.specs.Generating.{Generable, Generates}
+use Rattle.generator.specs.declared.Generation.{Generation}
+use Rattle.generator.specs.declared.Generation.the-variants.{Written}
+
+-- what the answer of generating and the lent file afterwards are good for
+pub record Good (n w : ℕ) (images : List ℕ) (answer : Generation) (made : List ℕ) : Type 0 where
+  -- a set is generated; `made` is as many bytes as the answer says
+  pub accepted : answer ≡ Written (length made)
+  pub long : length made ≡ fileLength n w
+  -- it reads as the permutation
+  pub reads : (out scratch : List ℕ) → n ≤ length out → 2 * n ≤ length scratch
+      → readOf made out scratch ≡ readAs n w made (overwrite n (orderOf n images) out)
+  -- and over any list of steps, from a fresh clock and two memories of 2n words or more that hold anything, the machine is the plain rule
+  pub streams : (first second : List ℕ) → 2 * n ≤ length first → 2 * n ≤ length second → (steps : List Feed)
+      → run (machine made) (record { clock = fresh; first = first; second = second }) steps ≡ run (plain n w (orderOf n images)) empty steps
+
+-- `Generable` says that n and w keep their limits, the images are a permutation, and the memory that generating needs is lent
+abbrev pub Streaming : Type 0
+Streaming = (n w : ℕ) (images file scratch : List ℕ) (answer : Generation) (file′ scratch′ : List ℕ)
+    → Generable n w images (length file) (length scratch) → Generates n w images file scratch answer file′ scratch′
+    → Good n w images answer (take (fileLength n w) file′)
+
+-- The same of `lentMachine`, which is made of `lentStep`, which the contract of `machine::step_lent` cites: the clock stays lent, and each step
+-- alters it where it stands.
+abbrev pub StreamingLent : Type 0
+StreamingLent = (n w : ℕ) (images file scratch : List ℕ) (answer : Generation) (file′ scratch′ : List ℕ)
+    → Generable n w images (length file) (length scratch) → Generates n w images file scratch answer file′ scratch′
+    → (first second : List ℕ) → 2 * n ≤ length first → 2 * n ≤ length second → (steps : List Feed)
+    → run (lentMachine (take (fileLength n w) file′)) (record { clock = fresh; first = first; second = second }) steps
+    ≡ run (plain n w (orderOf n images)) empty steps

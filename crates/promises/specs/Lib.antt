@@ -1,0 +1,4 @@
+-- The promises: statements alone. Their proofs stand in proofs/, under the same names.
+pub mod Demand1
+pub mod Demand2
+pub mod Demand3
