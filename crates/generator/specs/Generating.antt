@@ -1,8 +1,9 @@
 -- The call "generating": its refusals, and what an accepted call leaves behind.
 use Prim.Native.Nat.{ℕ, _+_, _*_, _≤_}
 use mathlib.Core.Path.{_≡_}
-use mathlib.Core.List.{List, _++_}
+use mathlib.Core.List.{List, _++_, [], _∷_}
 use lib.ListN.{length, getD, drop}
+use Rattle.refusal.specs.Replies.{Reply, accepts, refusalReply}
 use Rattle.laws.specs.Choice.{ifLt}
 use Rattle.refusal.specs.declared.Refusal.{Refusal}
 use Rattle.refusal.specs.declared.Refusal.the-variants.{BufferShort}
@@ -62,3 +63,8 @@ pub record Generates (n w : ℕ) (images file scratch : List ℕ) (answer : Gene
   -- every other call makes a set
   pub generated : checksOf n w images (length file) (length scratch) ≡ Permutation
       → (answer ≡ Written (fileLength n w)) × Filled n w images file scratch file′ scratch′
+
+-- "generating, the file's length"
+unfoldable pub generationReply : Generation → Reply
+generationReply (Written long) = accepts (long ∷ [])
+generationReply (Unmade r) = refusalReply r

@@ -1,6 +1,7 @@
 -- The cycle machine as a device: it takes clock and memories as the step before returned or left them.
 use Prim.Native.Nat.{ℕ}
-use mathlib.Core.List.{List}
+use mathlib.Core.List.{List, [], _∷_}
+use Rattle.refusal.specs.Replies.{Reply, accepts, refusalReply}
 use Rattle.refusal.specs.Refusals.{numberOf, placeOf}
 use Rattle.machine.specs.Devices.{Said, filling, wrote, refused, seen, Feed, feed, After}
 use Rattle.machine.specs.Step.{StepOutcome, stepOutcome, stepOf}
@@ -33,3 +34,9 @@ carded (stepOutcome answer first second out) clock = record {
 -- the machine on the set `file`
 unfoldable pub machine : List ℕ → Card → Feed → After Card
 machine file card (feed words out) = carded (stepOf file (card .clock) (card .first) (card .second) words out) (card .clock)
+
+-- "a step, the next clock, and `filling` or that w words were written": 0 for `filling`, 1 for written words, then the clock
+unfoldable pub stepReply : Stepped → Reply
+stepReply (Filling advance) = accepts (0 ∷ advance .next .cycle ∷ advance .next .half ∷ advance .next .fill ∷ [])
+stepReply (Wrote advance) = accepts (1 ∷ advance .next .cycle ∷ advance .next .half ∷ advance .next .fill ∷ [])
+stepReply (Refused r) = refusalReply r

@@ -1,7 +1,8 @@
 -- What following a line through a network answers.
 use Prim.Native.Nat.{ℕ, zero, suc, _+_}
-use mathlib.Core.List.{List}
+use mathlib.Core.List.{List, [], _∷_}
 use lib.ListN.{length, getD}
+use Rattle.refusal.specs.Replies.{Reply, accepts, refusalReply}
 use Rattle.laws.specs.Choice.{ifLt, ifLe}
 use Rattle.refusal.specs.declared.Refusal.the-variants.{Width, BufferShort, SwitchValue, OutOfRange}
 use Rattle.network.specs.Network.{bitCount, depthOf, leaves}
@@ -26,3 +27,8 @@ followOf width values line =
     (ifLt (length values) (bitCount d) (Unfollowed BufferShort)
     (ifLt (firstBad values (bitCount d) 0) (bitCount d) (Unfollowed (SwitchValue (firstBad values (bitCount d) 0)))
     (ifLe width line (Unfollowed (OutOfRange line)) (Line (passageOf width values line)))))
+
+-- "following a line, the line on which it leaves"
+unfoldable pub followedReply : Followed → Reply
+followedReply (Line passage) = accepts (passage .line ∷ [])
+followedReply (Unfollowed r) = refusalReply r

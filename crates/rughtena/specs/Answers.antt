@@ -1,52 +1,51 @@
--- The answers of the calls as integers: number 0 and the values of document 01, or a refusal's number and place.
+-- The answers of the calls as integers, from the numbers and values that the crate of each call gives its answer.
 use Prim.Native.Nat.{ℕ}
 use mathlib.Core.List.{List}
 use lib.ListN.{getD, set}
-use Rattle.refusal.specs.Refusals.{numberOf, placeOf}
+use Rattle.refusal.specs.Replies.{Reply, accepts, refuses, refusalReply}
 use Rattle.refusal.specs.declared.Refusal.{Refusal}
+use Rattle.generator.specs.Generating.{generationReply}
 use Rattle.generator.specs.declared.Generation.{Generation}
-use Rattle.generator.specs.declared.Generation.the-variants.{Written, Refused as Unmade}
+use Rattle.passing.specs.Calls.{followedReply}
 use Rattle.passing.specs.declared.following.Followed.{Followed}
-use Rattle.passing.specs.declared.following.Followed.the-variants.{Line, Refused as Unfollowed}
+use Rattle.setting.specs.Calls.{settingReply}
 use Rattle.setting.specs.declared.Setting.{Setting}
-use Rattle.setting.specs.declared.Setting.the-variants.{Written as Set, Refused as Unset}
+use Rattle.tables.specs.Reading.{readingReply}
 use Rattle.tables.specs.declared.Reading.{Reading}
-use Rattle.tables.specs.declared.Reading.the-variants.{Read, Refused as Unread}
+use Rattle.machine.specs.Machine.{stepReply}
 use Rattle.machine.specs.declared.Clock.{Clock}
 use Rattle.machine.specs.declared.Stepped.{Stepped}
-use Rattle.machine.specs.declared.Stepped.the-variants.{Filling, Wrote, Refused as Unstepped}
 use Rattle.rughtena.specs.declared.Answer.{Answer}
 use Rattle.rughtena.specs.declared.ReadAnswer.{ReadAnswer}
 
--- a refusal's number and place
+-- number 0 and the first value, or a refusal's number and place
+unfoldable pub answerOf : Reply → Answer
+answerOf (accepts values) = record { number = 0; value = getD values 0 0 }
+answerOf (refuses number place) = record { number = number; value = place }
+
+-- the same with two values
+unfoldable pub readAnswerOf : Reply → ReadAnswer
+readAnswerOf (accepts values) = record { number = 0; place = 0; words = getD values 0 0; width = getD values 1 0 }
+readAnswerOf (refuses number place) = record { number = number; place = place; words = 0; width = 0 }
+
 unfoldable pub refusalAnswer : Refusal → Answer
-refusalAnswer r = record { number = numberOf r; value = placeOf r }
+refusalAnswer r = answerOf (refusalReply r)
 
--- generating: the file's length
 unfoldable pub generationAnswer : Generation → Answer
-generationAnswer (Written length) = record { number = 0; value = length }
-generationAnswer (Unmade r) = refusalAnswer r
+generationAnswer answer = answerOf (generationReply answer)
 
--- setting a network: B
 unfoldable pub settingAnswer : Setting → Answer
-settingAnswer (Set settled) = record { number = 0; value = settled .count }
-settingAnswer (Unset r) = refusalAnswer r
+settingAnswer answer = answerOf (settingReply answer)
 
--- following a line: the line on which it leaves
 unfoldable pub lineAnswer : Followed → Answer
-lineAnswer (Line passage) = record { number = 0; value = passage .line }
-lineAnswer (Unfollowed r) = refusalAnswer r
+lineAnswer answer = answerOf (followedReply answer)
 
--- reading: n and w
 unfoldable pub readingAnswer : Reading → ReadAnswer
-readingAnswer (Read contents) = record { number = 0; place = 0; words = contents .words; width = contents .width }
-readingAnswer (Unread r) = record { number = numberOf r; place = placeOf r; words = 0; width = 0 }
+readingAnswer answer = readAnswerOf (readingReply answer)
 
--- a step: `filling` is 0, that w words were written is 1
+-- the clock is lent and told apart
 unfoldable pub steppedAnswer : Stepped → Answer
-steppedAnswer (Filling advance) = record { number = 0; value = 0 }
-steppedAnswer (Wrote advance) = record { number = 0; value = 1 }
-steppedAnswer (Unstepped r) = refusalAnswer r
+steppedAnswer answer = answerOf (stepReply answer)
 
 -- a clock in three lent numbers: the cycle, the half, the fill
 unfoldable pub clockOf : List ℕ → Clock

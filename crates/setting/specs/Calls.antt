@@ -1,7 +1,8 @@
 -- What setting a network answers.
 use Prim.Native.Nat.{ℕ}
-use mathlib.Core.List.{List}
+use mathlib.Core.List.{List, [], _∷_}
 use lib.ListN.{length, getD}
+use Rattle.refusal.specs.Replies.{Reply, accepts, refusalReply}
 use Rattle.laws.specs.Choice.{ifLt}
 use Rattle.laws.specs.Tabulate.{overwrite}
 use Rattle.refusal.specs.declared.Refusal.the-variants.{Width, BufferShort}
@@ -35,3 +36,8 @@ settingOf width images values =
     ifLt 6 d (setOutcome (Unset Width) values)
     (ifLt (length images) width (setOutcome (Unset BufferShort) values)
     (ifLt (length values) (bitCount d) (setOutcome (Unset BufferShort) values) (written (checkOf images width) d images values)))
+
+-- "setting a network, B beside the B written values"
+unfoldable pub settingReply : Setting → Reply
+settingReply (Written settled) = accepts (settled .count ∷ [])
+settingReply (Unset r) = refusalReply r

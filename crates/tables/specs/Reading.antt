@@ -3,9 +3,10 @@ use Prim.Native.Nat.{ℕ, zero, suc, _+_, _*_, _/_, _%_, _≤_}
 use mathlib.Core.Path.{_≡_}
 use mathlib.Core.Logic.{_⊎_}
 use mathlib.Core.Bool.{Bool, true}
-use mathlib.Core.List.{List}
+use mathlib.Core.List.{List, [], _∷_}
 use lib.Dec.{leb, eqb}
 use lib.ListN.{length, getD}
+use Rattle.refusal.specs.Replies.{Reply, accepts, refusalReply}
 use Rattle.laws.specs.Choice.{choose, ifLt}
 use Rattle.laws.specs.Any.{any}
 use Rattle.laws.specs.Tabulate.{overwrite}
@@ -84,3 +85,8 @@ abbrev pub Answered : List ℕ → List ℕ → List ℕ → Type 0
 Answered file images scratch =
     ((n : ℕ) × (w : ℕ) × (after : List ℕ) × (readOf file images scratch ≡ readAs n w file after) × Performed file images scratch n w after)
     ⊎ ((r : Refusal) × (readOf file images scratch ≡ readOutcome (Unread r) images))
+
+-- "reading, n and w beside the written P"
+unfoldable pub readingReply : Reading → Reply
+readingReply (Read contents) = accepts (contents .words ∷ contents .width ∷ [])
+readingReply (Unread r) = refusalReply r

@@ -1,7 +1,8 @@
 -- `answers::of_line` meets its contract: each case of the answer by itself.
 use mathlib.Core.Path.{refl, sym, ap, _∙_}
 use borrow.Author.Needs.{needs}
-use Rattle.rughtena.specs.Answers.{lineAnswer}
+use Rattle.passing.specs.Calls.{followedReply}
+use Rattle.rughtena.specs.Answers.{lineAnswer, refusalAnswer, answerOf}
 use Rattle.rughtena.proofs.answers.of_line.Statement.{statement}
 use Rattle.rughtena.proofs.answers.of_line.Tie as tie
 
@@ -15,11 +16,11 @@ of-refusal-requires : tie.Need-of-refusal-requires
 of-refusal-requires c κs = search needs
 
 returns : tie.Need-returns
-unfolding lineAnswer
+unfolding lineAnswer refusalAnswer followedReply answerOf
 returns c = rw (c .before .core .given .1) refl
 
 returns-2 : tie.Need-returns-2
-unfolding lineAnswer
+unfolding lineAnswer refusalAnswer followedReply answerOf
 returns-2 c = c .of-refusal .ensures ∙ sym (ap lineAnswer (c .before .before .core2 .given .1))
 
 pub of-line-spec : {M : Type 1} → statement M

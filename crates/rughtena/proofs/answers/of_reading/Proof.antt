@@ -1,7 +1,9 @@
 -- `answers::of_reading` meets its contract: each case of the answer by itself.
 use mathlib.Core.Path.{refl}
 use borrow.Author.Needs.{needs}
-use Rattle.rughtena.specs.Answers.{readingAnswer}
+use Rattle.refusal.specs.Replies.{refusalReply}
+use Rattle.tables.specs.Reading.{readingReply}
+use Rattle.rughtena.specs.Answers.{readingAnswer, readAnswerOf}
 use Rattle.rughtena.proofs.answers.of_reading.Statement.{statement}
 use Rattle.rughtena.proofs.answers.of_reading.Tie as tie
 
@@ -18,11 +20,11 @@ place-requires : tie.Need-place-requires
 place-requires c κs = search needs
 
 returns : tie.Need-returns
-unfolding readingAnswer
+unfolding readingAnswer readingReply readAnswerOf refusalReply
 returns c = rw (c .before .core .given .1) refl
 
 returns-2 : tie.Need-returns-2
-unfolding readingAnswer
+unfolding readingAnswer readingReply readAnswerOf refusalReply
 returns-2 c = rw (c .before .number .ensures) (rw (c .place .ensures) (rw (c .before .before .before .core2 .given .1) refl))
 
 pub of-reading-spec : {M : Type 1} → statement M
