@@ -37,6 +37,10 @@
 extern "C" {
 #endif
 
+/* The most words of a frame, and the most words of a cycle. */
+#define RUGHTENA_MOST_WORDS 4096
+#define RUGHTENA_MOST_WIDTH 64
+
 /* The longest table set, in bytes. */
 #define RUGHTENA_LONGEST_SET 12291
 

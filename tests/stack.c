@@ -7,10 +7,10 @@
 #include <stdlib.h>
 #include <string.h>
 
-enum { N = 4096, STACK = 1 << 20, PATTERN = 0xa5 };
+enum { N = RUGHTENA_MOST_WORDS, W = RUGHTENA_MOST_WIDTH, STACK = 1 << 20, PATTERN = 0xa5 };
 
 static size_t width;
-static uint16_t images[N], read_images[N], scratch[4 * N + 1024], first[2 * N], second[2 * N], words[64], out[64];
+static uint16_t images[N], read_images[N], scratch[RUGHTENA_GENERATE_SCRATCH(N)], first[2 * N], second[2 * N], words[W], out[W];
 static uint8_t file[RUGHTENA_LONGEST_SET], values[RUGHTENA_MOST_SWITCHES];
 static size_t length;
 
@@ -23,18 +23,18 @@ static void generate(void) {
 static void read_set(void) { rughtena_read(file, length, read_images, N, scratch, 2 * N); }
 
 static void set(void) {
-    uint16_t lines[64];
-    for (size_t i = 0; i < 64; i++) {
+    uint16_t lines[W];
+    for (size_t i = 0; i < W; i++) {
         lines[i] = (uint16_t)(63 - i);
     }
-    rughtena_set(64, lines, 64, values, sizeof values);
+    rughtena_set(W, lines, W, values, sizeof values);
 }
 
-static void follow(void) { rughtena_follow(64, values, sizeof values, 5); }
+static void follow(void) { rughtena_follow(W, values, sizeof values, 5); }
 
 static void step(void) {
     rughtena_clock clock = {0, 0, 2};
-    rughtena_step(file, length, &clock, first, 2 * N, second, 2 * N, words, width, out, 64);
+    rughtena_step(file, length, &clock, first, 2 * N, second, 2 * N, words, width, out, W);
 }
 
 static void *run(void *call) {
@@ -65,7 +65,7 @@ int main(void) {
     for (size_t i = 0; i < N; i++) {
         images[i] = (uint16_t)((i * 2731 + 17) % N);
     }
-    const size_t widths[] = {1, 8, 64};
+    const size_t widths[] = {1, 8, W};
     printf("| call | w | bytes of stack |\n| --- | --- | --- |\n");
     for (size_t k = 0; k < 3; k++) {
         width = widths[k];
@@ -75,7 +75,7 @@ int main(void) {
         printf("| step | %zu | %zu |\n", width, depth(step) - thread);
     }
     const size_t thread = depth(nothing);
-    printf("| set | 64 | %zu |\n", depth(set) - thread);
-    printf("| follow | 64 | %zu |\n", depth(follow) - thread);
+    printf("| set | %d | %zu |\n", W, depth(set) - thread);
+    printf("| follow | %d | %zu |\n", W, depth(follow) - thread);
     return 0;
 }

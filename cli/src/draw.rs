@@ -5,7 +5,7 @@ use crate::set::Set;
 use crate::Wrong;
 use std::fmt::Write;
 
-/// How many cycles are drawn; a set may have 4096.
+/// How many cycles are drawn; a set may have as many as a frame has words.
 const MOST_CYCLES: usize = 64;
 
 const CELL: usize = 22;

@@ -2,7 +2,7 @@
 use crate::refusals::words;
 use crate::text::{numbers, utf8};
 use crate::Wrong;
-use rughtena::LONGEST_SET;
+use rughtena::{generate_scratch, LONGEST_SET};
 
 /// The first number is the width, the others are the images: word i of a frame leaves at place image i.
 pub fn generate(input: &[u8]) -> Result<Vec<u8>, Wrong> {
@@ -11,7 +11,7 @@ pub fn generate(input: &[u8]) -> Result<Vec<u8>, Wrong> {
         return Err("no input: the width and then the images are expected".to_string());
     };
     let mut file = vec![0; LONGEST_SET];
-    let mut scratch = vec![0; 4 * images.len() + 1024];
+    let mut scratch = vec![0; generate_scratch(images.len())];
     let length = rughtena::generate(
         images.len(),
         width as usize,

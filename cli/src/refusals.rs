@@ -1,12 +1,12 @@
 //! The refusals of document 01 in words.
-use rughtena::Refusal;
+use rughtena::{Refusal, MOST_WIDTH, MOST_WORDS};
 
 /// One line that says what is wrong, with the number.
 pub fn words(refusal: Refusal) -> String {
     let place = refusal.place;
     let said = match refusal.number {
-        1 => "a frame has 1 to 4096 words".to_string(),
-        2 => "the width is 1 to 64".to_string(),
+        1 => format!("a frame has 1 to {MOST_WORDS} words"),
+        2 => format!("the width is 1 to {MOST_WIDTH}"),
         3 => "the width does not divide the number of words".to_string(),
         4 => format!("image {place} is not below the number of words"),
         5 => format!("image {place} was already an earlier word's"),

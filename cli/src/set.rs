@@ -1,6 +1,7 @@
 //! The lines of an accepted table set, as they stand in the file.
 use crate::refusals::words;
 use crate::Wrong;
+use rughtena::{read_scratch, MOST_WORDS};
 
 pub struct Set {
     pub n: usize,
@@ -20,8 +21,9 @@ pub struct Line {
 
 impl Set {
     pub fn of(file: &[u8]) -> Result<Set, Wrong> {
-        let mut images = vec![0; 4096];
-        let (n, w) = rughtena::read(file, &mut images, &vec![0; 8192]).map_err(words)?;
+        let mut images = vec![0; MOST_WORDS];
+        let (n, w) =
+            rughtena::read(file, &mut images, &vec![0; read_scratch(MOST_WORDS)]).map_err(words)?;
         images.truncate(n);
         let c = n / w;
         let a = c.next_power_of_two().trailing_zeros() as usize;

@@ -2,14 +2,15 @@
 use crate::refusals::words;
 use crate::text::{numbers, utf8};
 use crate::Wrong;
-use rughtena::{Clock, Said};
+use rughtena::{read_scratch, Clock, Said, MOST_WORDS};
 use std::fmt::Write;
 
 /// Each line of the input is a step: as many words as the set is wide. Each line of the output is what the card says: `filling`, or the words
 /// that leave. An empty line is passed over.
 pub fn simulate(set: &[u8], input: &[u8]) -> Result<Vec<u8>, Wrong> {
-    let mut images = vec![0; 4096];
-    let (n, w) = rughtena::read(set, &mut images, &vec![0; 8192]).map_err(words)?;
+    let mut images = vec![0; MOST_WORDS];
+    let (n, w) =
+        rughtena::read(set, &mut images, &vec![0; read_scratch(MOST_WORDS)]).map_err(words)?;
     let mut steps = Vec::new();
     for (line, text) in utf8(input)?.lines().enumerate() {
         let entering = numbers(text).map_err(|wrong| format!("line {}: {wrong}", line + 1))?;

@@ -8,7 +8,7 @@ const WIDTH: usize = 3;
 fn main() -> Result<(), Refusal> {
     let n = ORDER.len();
     let mut file = vec![0; LONGEST_SET];
-    let mut scratch = vec![0; 4 * n + 1024];
+    let mut scratch = vec![0; rughtena::generate_scratch(n)];
     let length = generate(n, WIDTH, &ORDER, &mut file, &mut scratch)?;
     let set = &file[..length];
     println!("a set of {length} bytes");

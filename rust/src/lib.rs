@@ -24,8 +24,27 @@ pub struct Clock {
     pub fill: usize,
 }
 
+/// The most words of a frame.
+pub const MOST_WORDS: usize = 4096;
+
+/// The most words of a cycle, and the most lines of a network.
+pub const MOST_WIDTH: usize = 64;
+
+/// The most switch values of a network.
+pub const MOST_SWITCHES: usize = 321;
+
 /// The longest table set, in bytes.
 pub const LONGEST_SET: usize = 12291;
+
+/// The scratch words that generating needs for frames of n words.
+pub const fn generate_scratch(n: usize) -> usize {
+    4 * n + 1024
+}
+
+/// The scratch words that reading needs for frames of n words.
+pub const fn read_scratch(n: usize) -> usize {
+    2 * n
+}
 
 #[repr(C)]
 struct Answer {

@@ -3,7 +3,7 @@
 use crate::lent::Lent;
 use crate::orders::Random;
 use crate::second;
-use crate::{Clock, Refusal, Said};
+use crate::{generate_scratch, Clock, Refusal, Said};
 
 /// Generating. Where a set is made its read lines are the generator's choice, so file and scratch are left to the caller; the call
 /// answers with the set.
@@ -31,9 +31,9 @@ pub fn generate(
         }
         Ok(length) => {
             file.kept_from(length);
-            scratch.kept_from(4 * n + 1024);
+            scratch.kept_from(generate_scratch(n));
             other_file.kept_from(length);
-            other_scratch.kept_from(4 * n + 1024);
+            other_scratch.kept_from(generate_scratch(n));
             Ok(file.now()[..length].to_vec())
         }
     }
@@ -148,7 +148,7 @@ pub fn step(
 pub fn set_of(n: usize, w: usize, random: &mut Random) -> Vec<u8> {
     let order = random.order(n);
     let mut file = vec![0; second::Dims::new(n, w).length];
-    let mut scratch = vec![0; 4 * n + 1024];
+    let mut scratch = vec![0; generate_scratch(n)];
     second::generate(n, w, &order, &mut file, &mut scratch).expect("a permutation is generated");
     file
 }

@@ -6,7 +6,9 @@ pub mod orders;
 pub mod plain;
 pub mod second;
 
-pub use rughtena::{Clock, Refusal, Said};
+pub use rughtena::{
+    generate_scratch, read_scratch, Clock, Refusal, Said, MOST_SWITCHES, MOST_WIDTH, MOST_WORDS,
+};
 
 pub fn refuse<T>(number: usize, place: usize) -> Result<T, Refusal> {
     Err(Refusal { number, place })

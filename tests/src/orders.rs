@@ -82,5 +82,5 @@ pub fn all(n: usize) -> Vec<Vec<u16>> {
 
 /// The widths of a frame of n words.
 pub fn widths(n: usize) -> impl Iterator<Item = usize> {
-    (1..=n.min(64)).filter(move |w| n % w == 0)
+    (1..=n.min(crate::MOST_WIDTH)).filter(move |w| n % w == 0)
 }

@@ -1,6 +1,7 @@
 //! A second implementation of the calls, in safe Rust, written from document 01.
 use crate::{refuse, Clock, Refusal, Said};
 
+/// The limits of document 01, written here once more: the second implementation shares nothing with the library.
 const MAX_WORDS: usize = 4096;
 const MAX_WIDTH: usize = 64;
 const MAX_SWITCHES: usize = 321;

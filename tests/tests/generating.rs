@@ -2,12 +2,12 @@
 use rughtena_tests::lent::Lent;
 use rughtena_tests::orders::{bit_reversal, identity, reversal, stride, widths, Random};
 use rughtena_tests::second::{inspect, Dims};
-use rughtena_tests::{both, refuse, second, Refusal};
+use rughtena_tests::{both, generate_scratch, refuse, second, Refusal, MOST_WIDTH, MOST_WORDS};
 
 fn make(n: usize, w: usize, images: &[u16], random: &mut Random) -> Result<Vec<u8>, Refusal> {
     let (more_bytes, more_words) = (random.below(4), random.below(4));
     let file = Lent::bytes(random, Dims::new(n, w).length + more_bytes);
-    let scratch = Lent::words(random, 4 * n + 1024 + more_words);
+    let scratch = Lent::words(random, generate_scratch(n) + more_words);
     both::generate(n, w, images, &file, &scratch)
 }
 
@@ -37,7 +37,7 @@ fn is_set_of(w: usize, order: &[u16], set: &[u8], random: &mut Random) {
 #[test]
 fn sets_of_every_width() {
     let mut random = Random(21);
-    for n in (1..=140).chain([1000, 2048, 4032, 4095, 4096]) {
+    for n in (1..=140).chain([1000, 2048, 4032, 4095, MOST_WORDS]) {
         for w in widths(n) {
             let mut order = random.order(n);
             let set = make(n, w, &order, &mut random).expect("a permutation is generated");
@@ -53,7 +53,7 @@ fn sets_of_every_width() {
 #[test]
 fn sets_of_regular_orders() {
     let mut random = Random(22);
-    for n in [64, 1024, 4096] {
+    for n in [64, 1024, MOST_WORDS] {
         for w in widths(n) {
             for order in [
                 identity(n),
@@ -79,13 +79,13 @@ fn limits() {
     let words = identity(5000);
     for w in [1, 2, 17, 64] {
         assert_eq!(
-            both::generate(4097, w, &words, &file, &scratch),
+            both::generate(MOST_WORDS + 1, w, &words, &file, &scratch),
             refuse(1, 0)
         );
         assert_eq!(both::generate(0, w, &words, &file, &scratch), refuse(1, 0));
     }
-    assert!(both::generate(4096, 1, &words, &file, &scratch).is_ok());
-    assert!(both::generate(4096, 64, &words, &file, &scratch).is_ok());
+    assert!(both::generate(MOST_WORDS, 1, &words, &file, &scratch).is_ok());
+    assert!(both::generate(MOST_WORDS, 64, &words, &file, &scratch).is_ok());
     assert_eq!(
         both::generate(130, 65, &words, &file, &scratch),
         refuse(2, 0)
@@ -108,7 +108,17 @@ fn refusals_in_their_order() {
     let mut seen = [0; 16];
     for _ in 0..30000 {
         let w = [0, 1, 2, 3, 4, 7, 8, 64, 65, 200][random.below(10)];
-        let n = [0, 1, w, 2 * w, 3 * w, 3 * w + 1, 4096, 4097, 5000][random.below(9)];
+        let n = [
+            0,
+            1,
+            w,
+            2 * w,
+            3 * w,
+            3 * w + 1,
+            MOST_WORDS,
+            MOST_WORDS + 1,
+            5000,
+        ][random.below(9)];
         let mut images = random.order(n.min(5000));
         for _ in 0..random.below(3) {
             if !images.is_empty() {
@@ -123,14 +133,17 @@ fn refusals_in_their_order() {
         if random.below(4) == 0 {
             images.pop();
         }
-        let dims = if n > 0 && w > 0 && n <= 4096 && w <= 64 {
+        let dims = if n > 0 && w > 0 && n <= MOST_WORDS && w <= MOST_WIDTH {
             Dims::new(n, w).length
         } else {
             40
         };
         let short = random.below(6);
         let file = Lent::bytes(&mut random, dims - (short == 1) as usize);
-        let scratch = Lent::words(&mut random, 4 * n.min(4096) + 1024 - (short == 2) as usize);
+        let scratch = Lent::words(
+            &mut random,
+            generate_scratch(n.min(MOST_WORDS)) - (short == 2) as usize,
+        );
         match both::generate(n, w, &images, &file, &scratch) {
             Ok(_) => seen[0] += 1,
             Err(refusal) => seen[refusal.number] += 1,

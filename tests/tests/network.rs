@@ -2,7 +2,7 @@
 use rughtena_tests::lent::Lent;
 use rughtena_tests::orders::{all, Random};
 use rughtena_tests::second::switch_count;
-use rughtena_tests::{both, refuse};
+use rughtena_tests::{both, refuse, MOST_SWITCHES};
 
 const WIDTHS: [usize; 7] = [1, 2, 4, 8, 16, 32, 64];
 
@@ -74,7 +74,7 @@ fn refusals_of_setting() {
         let order = random.order(width.max(1));
         for images_len in [0, width.saturating_sub(1), width] {
             let images = &order[..images_len.min(order.len())];
-            for values_len in [0, 4, 5, 16, 17, 48, 49, 320, 321, 400] {
+            for values_len in [0, 4, 5, 16, 17, 48, 49, 320, MOST_SWITCHES, 400] {
                 let values = Lent::bytes(&mut random, values_len);
                 let answer = both::set(width, images, &values);
                 if !WIDTHS.contains(&width) {
@@ -91,7 +91,7 @@ fn refusals_of_setting() {
         for i in 0..width {
             let mut images = random.order(width);
             images[i] = (width + random.below(60000)) as u16;
-            let values = Lent::bytes(&mut random, 321);
+            let values = Lent::bytes(&mut random, MOST_SWITCHES);
             assert_eq!(both::set(width, &images, &values), refuse(4, i));
             if i > 0 {
                 let mut images = random.order(width);
@@ -101,7 +101,7 @@ fn refusals_of_setting() {
         }
         for _ in 0..200 {
             let images: Vec<u16> = (0..width).map(|_| random.below(width + 1) as u16).collect();
-            let values = Lent::bytes(&mut random, 321);
+            let values = Lent::bytes(&mut random, MOST_SWITCHES);
             let _ = both::set(width, &images, &values);
         }
     }
@@ -111,7 +111,7 @@ fn refusals_of_setting() {
 fn refusals_of_following() {
     let mut random = Random(15);
     for width in 0..140usize {
-        for len in [0, 1, 4, 5, 17, 49, 129, 320, 321, 330] {
+        for len in [0, 1, 4, 5, 17, 49, 129, 320, MOST_SWITCHES, 330] {
             let mut values: Vec<u8> = (0..len).map(|_| random.below(2) as u8).collect();
             for line in [
                 0,

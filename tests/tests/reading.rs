@@ -3,12 +3,12 @@ use rughtena_tests::both::set_of;
 use rughtena_tests::lent::Lent;
 use rughtena_tests::orders::{widths, Random};
 use rughtena_tests::second::Dims;
-use rughtena_tests::{both, refuse, Refusal};
+use rughtena_tests::{both, refuse, Refusal, MOST_WORDS};
 
 type Answer = Result<(usize, usize, Vec<u16>), Refusal>;
 
 fn read(file: &[u8], random: &mut Random) -> Answer {
-    let (more, most) = (random.below(3), 4096);
+    let (more, most) = (random.below(3), MOST_WORDS);
     let images = Lent::words(random, most + more);
     let scratch = Lent::words(random, 2 * most + more);
     both::read(file, &images, &scratch)
@@ -98,7 +98,7 @@ fn damaged_lines() {
 #[test]
 fn every_header() {
     let mut random = Random(34);
-    let images = Lent::words(&mut random, 4096);
+    let images = Lent::words(&mut random, MOST_WORDS);
     let scratch = Lent::words(&mut random, 8192);
     let mut file = random.bytes(40);
     for n in 0..8192usize {

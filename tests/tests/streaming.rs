@@ -5,6 +5,7 @@ use rughtena::Clock;
 use rughtena_tests::orders::{all, widths, Random};
 use rughtena_tests::plain::Plain;
 use rughtena_tests::second::Dims;
+use rughtena_tests::{generate_scratch, MOST_WORDS};
 
 /// Frames that are fed; all but the last two leave.
 const FRAMES: usize = 6;
@@ -12,7 +13,7 @@ const FRAMES: usize = 6;
 fn generated(w: usize, order: &[u16]) -> Vec<u8> {
     let n = order.len();
     let mut file = vec![0xa5; Dims::new(n, w).length];
-    let mut scratch = vec![0x5a5a; 4 * n + 1024];
+    let mut scratch = vec![0x5a5a; generate_scratch(n)];
     let length =
         card::generate(n, w, order, &mut file, &mut scratch).expect("a permutation is generated");
     assert_eq!(length, file.len());
@@ -90,7 +91,7 @@ fn random_orders_of_up_to_130_words() {
 #[test]
 fn longest_frames_at_every_width() {
     let mut random = Random(3);
-    for n in [4096, 4095, 4032, 3600] {
+    for n in [MOST_WORDS, 4095, 4032, 3600] {
         for w in widths(n) {
             let order = random.order(n);
             whole(w, &order, &mut random);

@@ -5,7 +5,7 @@
 //! WIDTH TIMES`, on a random order of 4,096 words.
 use rughtena_tests::orders::{bit_reversal, identity, reversal, stride, Random};
 use rughtena_tests::second::Dims;
-use rughtena_tests::Clock;
+use rughtena_tests::{generate_scratch, Clock, MOST_WIDTH, MOST_WORDS};
 use std::hint::black_box;
 use std::time::Instant;
 
@@ -34,7 +34,7 @@ impl Case<'_> {
             w,
             order,
             file: vec![0; Dims::new(n, w).length],
-            scratch: vec![0; 4 * n + 1024],
+            scratch: vec![0; generate_scratch(n)],
             images: vec![0; n],
             first: vec![0; 2 * n],
             second: vec![0; 2 * n],
@@ -127,7 +127,7 @@ fn repeat(arguments: &[String]) -> Option<()> {
     let call = ["generate", "read", "step"]
         .iter()
         .position(|name| name == call)?;
-    let order = Random(7).order(4096);
+    let order = Random(7).order(MOST_WORDS);
     let mut case = Case::new(width.parse().ok()?, &order);
     let calls = implementations();
     calls[0][0](&mut case);
@@ -145,11 +145,11 @@ fn main() {
     println!("| n | w | order | generate | second | ratio | read | second | ratio | step | second | ratio | generate, ms |");
     println!("| --- | --- | --- | --- | --- | --- | --- | --- | --- | --- | --- | --- | --- |");
     let mut random = Random(7);
-    for w in [1, 2, 8, 16, 64] {
-        for n in [256, 1024, 4096] {
+    for w in [1, 2, 8, 16, MOST_WIDTH] {
+        for n in [256, 1024, MOST_WORDS] {
             row("random", w, &random.order(n));
         }
-        let n = 4096;
+        let n = MOST_WORDS;
         row("identity", w, &identity(n));
         row("reversal", w, &reversal(n));
         row("bit reversal", w, &bit_reversal(n));
