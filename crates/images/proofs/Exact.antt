@@ -8,15 +8,15 @@ use native.Mathlib.Decide.{ℕ-discrete, decLt}
 use lib.ListN.{getD}
 use Rattle.laws.specs.Choice.{ifLe, ifEq}
 use Rattle.laws.specs.Permutation.{Permutes}
-use Rattle.laws.proofs.Choices.{ifLe-yes, ifLe-no, ifEq-yes, ifEq-no}
+use Rattle.laws.proofs.Choices.{ifLe-yes, ifLe-no, ifEq-yes, ifEq-no, zero-not-one}
 use Rattle.refusal.specs.declared.Refusal.{Refusal}
 use Rattle.refusal.specs.declared.Refusal.the-variants.{OutOfRange, Repeated}
 use Rattle.images.specs.declared.Checked.the-variants.{Permutation, Refused}
-use Rattle.images.specs.Images.{earlier, checkFrom, checkOf}
+use Rattle.images.specs.Images.{earlier, checkFrom, checkOf, orderOf}
 
 -- a refusal is no acceptance
 pub not-refused : (r : Refusal) → Refused r ≡ Permutation → ⊥
-not-refused r e = let z : _≡_ {A = ℕ} 0 1 = cc in omega arith
+not-refused r e = zero-not-one cc
 
 module _ (images : List ℕ) where
   -- an image of an earlier element is marked
@@ -61,7 +61,7 @@ module _ (images : List ℕ) where
         let now = h i (omega arith) (omega arith) in
         sym (ifLe-no n (getD images i 0) _ _ _ (now .0) (ifEq-no _ 1 _ _ _ (now .1) (sym (passes-scan k (i + 1) (λ j l m. h j (omega arith) (omega arith))))))
 
-  pub check-permutes : (n : ℕ) → checkOf images n ≡ Permutation → Permutes n (λ i. getD images i 0)
+  pub check-permutes : (n : ℕ) → checkOf images n ≡ Permutation → Permutes n (orderOf n images)
   unfolding checkOf Passes
   check-permutes n h = record {
     below = λ i l. scan-passes n n 0 h i (omega arith) (omega arith) .0;
@@ -72,7 +72,7 @@ module _ (images : List ℕ) where
     ];
   }
 
-  pub permutes-check : (n : ℕ) → Permutes n (λ i. getD images i 0) → checkOf images n ≡ Permutation
+  pub permutes-check : (n : ℕ) → Permutes n (orderOf n images) → checkOf images n ≡ Permutation
   unfolding checkOf Passes
   permutes-check n P = passes-scan n n 0 λ j l m.
       let b : j < n = omega arith in

@@ -8,9 +8,13 @@ use lib.Dec.{ltb, leb, eqb}
 use borrow.Author.Tests.{ltb-true, ltb-false, leb-true, leb-false, eqb-true, eqb-false, lt-ltb, le-ltb, le-leb, lt-leb, eq-eqb, ne-eqb}
 use Rattle.laws.specs.Choice.{choose, ifLt, ifLe, ifEq}
 
+-- an equation of two different constructors gives 0 ≡ 1 (by `cc`), and that gives all
+pub zero-not-one : _≡_ {A = ℕ} 0 1 → ⊥
+zero-not-one e = omega arith
+
 -- the two outcomes of a test are apart
 pub false-true {ℓ} : {X : Type ℓ} → false ≡ true → X
-false-true h = let z : _≡_ {A = ℕ} 0 1 = cc in absurd (omega arith)
+false-true h = absurd (zero-not-one cc)
 
 -- the first arm, by a test that came out true
 pub choose-yes {ℓ} : {X : Type ℓ} (t : Bool) (r x y : X) → t ≡ true → r ≡ x → r ≡ choose t x y

@@ -10,7 +10,7 @@ use mathlib.Core.Logic.{_⊎_, inl, inr, ⊎-elim}
 use native.Mathlib.Omega.{arith}
 use lib.ListN.{length}
 use Rattle.laws.specs.Choice.{ifLt, ifEq}
-use Rattle.laws.proofs.Choices.{ifLt-no, ifLe-no, ifLt-cases, ifLe-cases, ifEq-cases, choose-cases}
+use Rattle.laws.proofs.Choices.{ifLt-no, ifLe-no, ifLt-cases, ifLe-cases, ifEq-cases, choose-cases, zero-not-one}
 use Rattle.refusal.specs.declared.Refusal.{Refusal}
 use Rattle.refusal.specs.declared.Refusal.the-variants.{BufferShort, WordCount, ClockRange, ReadAddress, SpareLine, WriteAddress}
 use Rattle.tables.specs.Terms.{cycles}
@@ -25,10 +25,6 @@ use Rattle.machine.specs.Step.{StepOutcome, stepOutcome, accepted, buffe
 use Rattle.machine.specs.declared.Clock.{Clock}
 use Rattle.machine.specs.declared.Stepped.the-variants.{Refused}
 use Rattle.machine.specs.inner.Ready.{Room, InRange}
-
--- unlike constructors are never equal: `cc` draws this from such an equation
-pub zero-not-one : _≡_ {A = ℕ} 0 1 → ⊥
-zero-not-one e = omega arith
 
 -- ---- each test refuses or passes
 

@@ -9,7 +9,7 @@ use lib.Dec.{leb}
 use lib.ListN.{length}
 use Rattle.laws.specs.Choice.{ifLt, ifLe}
 use Rattle.laws.specs.Tabulate.{overwrite}
-use Rattle.laws.proofs.Choices.{ifLt-yes, ifLt-no, choose-yes, choose-no, ifLt-cases, choose-both, ifLt-both, ifEq-both}
+use Rattle.laws.proofs.Choices.{ifLt-yes, ifLt-no, choose-yes, choose-no, ifLt-cases, choose-both, ifLt-both, ifEq-both, zero-not-one}
 use Rattle.laws.proofs.Tabulates.{overwrite-ext}
 use Rattle.refusal.specs.declared.Refusal.{Refusal}
 use Rattle.refusal.specs.declared.Refusal.the-variants.{ReadAddress, SpareLine, WriteAddress}
@@ -27,7 +27,7 @@ use Rattle.machine.specs.declared.Stepped.the-variants.{Refused}
 use Rattle.machine.specs.declared.stepping.Tested.{Tested}
 use Rattle.machine.specs.declared.stepping.Tested.the-variants.{Passed, Refused as Turned}
 use Rattle.machine.specs.inner.Ready.{Room, InRange, LineOutcome, lineOutcome, testOf, moveOf, readyOf}
-use Rattle.machine.proofs.Cases.{zero-not-one, buffer-cases, clock-cases, line-cases}
+use Rattle.machine.proofs.Cases.{buffer-cases, clock-cases, line-cases}
 use Rattle.machine.proofs.NeverMeet.{frames-never-meet}
 
 -- ---- the line, as the code tests and moves it

@@ -45,7 +45,7 @@ set-written : (width : ℕ) (images values : List ℕ) (x : Checked) → bitCoun
 unfolding SetLends written
 set-written width images values (Unfit r) l = inl (r, refl)
 set-written width images values Permutation l =
-    inr (_, refl, only-overwrite (bitCount (depthOf width)) (λ i. getD (setting (depthOf width) (λ x. getD images x 0)) i 0) values l)
+    inr (_, refl, only-overwrite (bitCount (depthOf width)) (λ i. getD (setting (depthOf width) (orderOf width images)) i 0) values l)
 
 pub set-lends : (width : ℕ) (images values : List ℕ) → SetLends width values (settingOf width images values)
 unfolding SetLends settingOf

@@ -9,7 +9,7 @@ use lib.ListN.{length, getD, take}
 use Rattle.laws.specs.Choice.{ifLt, ifEq}
 use Rattle.laws.specs.Tabulate.{tabulate, overwrite}
 use Rattle.laws.specs.Permutation.{inverse}
-use Rattle.laws.proofs.Choices.{ifLt-no, ifEq-yes}
+use Rattle.laws.proofs.Choices.{ifLt-no, ifEq-yes, zero-not-one}
 use Rattle.laws.proofs.Tabulates.{getD-overwrite}
 use Rattle.refusal.specs.declared.Refusal.{Refusal}
 use Rattle.images.specs.Images.{orderOf}
@@ -29,7 +29,7 @@ module _ {n w : ℕ} {images file scratch : List ℕ} {answer : Generation} {fil
   -- a generator that turns down all or hard permutations
   pub none-turned-down : (r : Refusal) → answer ≡ Unmade r → ⊥
   none-turned-down r e = let q : Written (fileLength n w) ≡ Unmade r = sym (G .generated (passed-checks R) .0) ∙ e in
-      let z : _≡_ {A = ℕ} 0 1 = cc in omega arith
+      zero-not-one cc
 
   -- a generator that reports a length that it did not write
   pub length-reported : (k : ℕ) → answer ≡ Written k → k ≡ length (take (fileLength n w) file′)
@@ -45,7 +45,7 @@ module _ {n w : ℕ} {images file scratch : List ℕ} {answer : Generation} {fil
     pub set-not-refused : (r : Refusal) (out′ : List ℕ) → readOf (take (fileLength n w) file′) out memory ≡ readOutcome (Unread r) out′ → ⊥
     set-not-refused r out′ e =
         let q : readAs n w (take (fileLength n w) file′) (overwrite n (orderOf n images) out) ≡ readOutcome (Unread r) out′ = sym reads ∙ e in
-        let z : _≡_ {A = ℕ} 0 1 = cc in omega arith
+        zero-not-one cc
 
     -- a generator that gives the straight-through set for every permutation: only the straight order has it
     pub straight-alone : readOf (take (fileLength n w) file′) out memory ≡ readAs n w (take (fileLength n w) file′) (overwrite n (λ i. i) out)
@@ -65,8 +65,7 @@ no-late-filling n w p row words out shown late exact roomy e =
     ifLt-no (length out) w _ _ _ roomy (ifEq-yes (length words) w _ _ _ exact refl) in
     let wrote-now : seen wrote written ≡ took n w p row words out .shows = ifLt-no (row .steps) (2 * cycles n w) _ _ _ late refl in
     let q : seen wrote written ≡ seen filling shown = wrote-now ∙ ap (λ (a : After Row). a .shows) told ∙ e in
-    let z : _≡_ {A = ℕ} 0 1 = cc in
-    omega arith
+    zero-not-one cc
 
 -- one word enters, with one word of output memory
 pub enters : ℕ → Feed
@@ -105,8 +104,7 @@ module _ {S : Type 0} (device : S → Feed → After S) (start : S) where
       let more : List Feed = enters 0 ∷ enters 0 ∷ [] in
       let q : run (plain 1 1 (λ i. i)) empty (enters 0 ∷ more) ≡ run (plain 1 1 (λ i. i)) empty (enters 1 ∷ more) =
       sym (same (enters 0 ∷ more)) ∙ deaf 0 1 more ∙ same (enters 1 ∷ more) in
-      let z : _≡_ {A = ℕ} 0 1 = cc in
-      omega arith
+      zero-not-one cc
 
   -- a machine that reorders its first frame and passes later ones through
   pub later-frames-too : ((steps : List Feed) → run device start steps ≡ run (plain 2 1 (λ i. 1 - i)) empty steps)

@@ -1,12 +1,12 @@
 -- What setting a network answers.
-use Prim.Native.Nat.{ℕ}
+use Prim.Native.Nat.{ℕ, _^_}
 use mathlib.Core.List.{List, [], _∷_}
 use lib.ListN.{length, getD}
 use Rattle.refusal.specs.Replies.{Reply, accepts, refusalReply}
 use Rattle.laws.specs.Choice.{ifLt}
 use Rattle.laws.specs.Tabulate.{overwrite}
 use Rattle.refusal.specs.declared.Refusal.the-variants.{Width, BufferShort}
-use Rattle.images.specs.Images.{checkOf}
+use Rattle.images.specs.Images.{checkOf, orderOf}
 use Rattle.images.specs.declared.Checked.{Checked}
 use Rattle.images.specs.declared.Checked.the-variants.{Permutation, Refused as Unfit}
 use Rattle.network.specs.Network.{bitCount, depthOf}
@@ -27,7 +27,7 @@ settledOf d = record { count = bitCount d }
 unfoldable pub written : Checked → ℕ → List ℕ → List ℕ → SetOutcome
 written (Unfit r) d images values = setOutcome (Unset r) values
 written Permutation d images values =
-    setOutcome (Written (settledOf d)) (overwrite (bitCount d) (λ i. getD (setting d (λ x. getD images x 0)) i 0) values)
+    setOutcome (Written (settledOf d)) (overwrite (bitCount d) (λ i. getD (setting d (orderOf (2 ^ d) images)) i 0) values)
 
 -- setting a network: 2, 12, then 4 and 5 by rising i
 unfoldable pub settingOf : ℕ → List ℕ → List ℕ → SetOutcome

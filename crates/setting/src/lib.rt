@@ -4,6 +4,7 @@ mod switches;
 ghost use mathlib.Core.Path.{_≡_};
 ghost use Prim.Native.Nat.{ℕ, _<_, _≤_};
 ghost use lib.ListN.{length, getD};
+ghost use Rattle.images.specs.Images.{orderOf};
 ghost use Rattle.limits.specs.Limits.{mostWidth};
 ghost use Rattle.laws.specs.Permutation.{Permutes};
 ghost use Rattle.laws.specs.Inverting.{Inverting};
@@ -64,9 +65,9 @@ fn invert(forward: &[u8], width: usize) -> [u8; MOST_WIDTH]
 fn set_images(width: usize, images: &[u16], bits: &mut [u8])
     requires { ⌜ ((d : ℕ) × Sized width (length (now bits)) d) ⌝ }
     requires { ⌜ (width ≤ mostWidth) × (width ≤ length (now images)) ⌝ }
-    requires { ⌜ Permutes width (λ i. getD (now images) i 0) ⌝ }
+    requires { ⌜ Permutes width (orderOf width (now images)) ⌝ }
     ensures { λ _. ⌜ ((d : ℕ) → Sized width (length (now (bits .entry))) d
-        → now (bits .exit) ≡ setting d (λ i. getD (now (images .entry)) i 0)) ⌝ }
+        → now (bits .exit) ≡ setting d (orderOf width (now (images .entry)))) ⌝ }
 {
     let forward = narrow(images, width);
     let back = invert(&forward[..width], width);

@@ -12,7 +12,7 @@ use borrow.Author.Tests.{leb-false, le-leb, lt-leb, eq-eqb, ne-eqb}
 use Rattle.laws.specs.Choice.{choose}
 use Rattle.laws.specs.Any.{any}
 use Rattle.laws.specs.Permutation.{Injective}
-use Rattle.laws.proofs.Choices.{choose-cases}
+use Rattle.laws.proofs.Choices.{choose-cases, zero-not-one}
 use Rattle.laws.proofs.Anys.{any-false, any-none, any-some}
 use Rattle.refusal.specs.declared.Refusal.{Refusal}
 use Rattle.refusal.specs.declared.Refusal.the-variants.{ReadAddress, SpareLine, WriteAddress}
@@ -30,7 +30,7 @@ pub record Accepted (n w : ℕ) (file : List ℕ) : Type 0 where
   pub writes-once : (k : ℕ) → k < w → Injective (cycles n w) (λ t. writeAddress n w file t k)
 
 not-both : {r : Bool} → r ≡ true → r ≡ false → ⊥
-not-both {r} h g = let z : _≡_ {A = ℕ} 0 1 = cc in omega arith
+not-both {r} h g = zero-not-one cc
 
 -- ---- one bank: f t is its address in line t
 

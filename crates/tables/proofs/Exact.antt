@@ -10,7 +10,7 @@ use native.Mathlib.Decide.{decLt}
 use lib.ListN.{length, getD}
 use Rattle.laws.specs.Tabulate.{overwrite}
 use Rattle.laws.specs.Permutation.{Permutes}
-use Rattle.laws.proofs.Choices.{ifLt-yes, ifLt-no}
+use Rattle.laws.proofs.Choices.{ifLt-yes, ifLt-no, zero-not-one}
 use Rattle.laws.proofs.Tabulates.{getD-overwrite, overwrite-ext}
 use Rattle.refusal.specs.declared.Refusal.{Refusal}
 use Rattle.refusal.specs.declared.Refusal.the-variants.{BufferShort}
@@ -98,7 +98,7 @@ module _ (file images scratch : List ℕ) where
 
   -- an accepted reading has written what the datapath performs
   pub read-performs : {n w : ℕ} {after : List ℕ} → readOf file images scratch ≡ readAs n w file after → Performed file images scratch n w after
-  read-performs {n} {w} {after} h = ⊎-elim accepted (λ r. let z : _≡_ {A = ℕ} 0 1 = cc (r .1) in absurd (omega arith)) read-cases
+  read-performs {n} {w} {after} h = ⊎-elim accepted (λ r. absurd (zero-not-one (cc (r .1)))) read-cases
     where
       accepted : (m : ℕ) × (v : ℕ) × (out : List ℕ) × (readOf file images scratch ≡ readAs m v file out) × Performed file images scratch m v out
           → Performed file images scratch n w after

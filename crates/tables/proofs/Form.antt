@@ -7,7 +7,7 @@ use mathlib.Core.Logic.{_⊎_, inl, inr, ⊎-elim}
 use native.Mathlib.Omega.{arith}
 use lib.ListN.{length}
 use Rattle.laws.specs.Permutation.{Permutes}
-use Rattle.laws.proofs.Choices.{ifLt-no, ifEq-yes, ifLt-cases, ifEq-cases}
+use Rattle.laws.proofs.Choices.{ifLt-no, ifEq-yes, ifLt-cases, ifEq-cases, zero-not-one}
 use Rattle.refusal.specs.declared.Refusal.{Refusal}
 use Rattle.refusal.specs.declared.Refusal.the-variants.{FileShort, Header, FileLong}
 use Rattle.tables.specs.Terms.{fileLength}
@@ -69,7 +69,7 @@ open-cases file =
 -- the shape with which a file opens is that of its header
 pub opened-form : {n w : ℕ} (file : List ℕ) → openOf file ≡ Set (shapeOf n w) → Form n w file
 unfolding shapeOf
-opened-form {n} {w} file h = ⊎-elim here (λ r. let z : _≡_ {A = ℕ} 0 1 = cc (r .1) in absurd (omega arith)) (open-cases file)
+opened-form {n} {w} file h = ⊎-elim here (λ r. absurd (zero-not-one (cc (r .1)))) (open-cases file)
   where
     here : (openOf file ≡ Set (shapeOf (headerWords file) (headerWidth file))) × Form (headerWords file) (headerWidth file) file
         → Form n w file
@@ -102,4 +102,4 @@ pub opened-shape : (file : List ℕ) (s : Shape) → openOf file ≡ Set s → S
 opened-shape file s h =
     ⊎-elim
     (λ r. subst Shaped (let e : shapeOf (headerWords file) (headerWidth file) ≡ s = cc (r .0) in e) (shape-own (r .1 .dims) refl))
-    (λ r. let z : _≡_ {A = ℕ} 0 1 = cc (r .1) in absurd (omega arith)) (open-cases file)
+    (λ r. absurd (zero-not-one (cc (r .1)))) (open-cases file)

@@ -2,9 +2,8 @@
 -- both go on. All else that is said of them follows from it.
 use Prim.Native.Nat.{ℕ, _%_}
 use mathlib.Core.Path.{_≡_, refl, sym}
-use native.Mathlib.Omega.{arith}
 use Rattle.limits.specs.Limits.{mostWords, mostWidth}
-use Rattle.laws.proofs.Choices.{ifLt-both, ifEq-both, ifLt-no, ifEq-yes}
+use Rattle.laws.proofs.Choices.{ifLt-both, ifEq-both, ifLt-no, ifEq-yes, zero-not-one}
 use Rattle.refusal.specs.declared.Refusal.{Refusal}
 use Rattle.refusal.specs.declared.Refusal.the-variants.{FrameSize, Width, Uneven}
 use Rattle.tables.specs.Terms.{Dims, limitTest, limitsOf}
@@ -36,7 +35,7 @@ limit-passes {n = n} {w} refused next D = sym (
 
 -- what the code's answer says
 kept-refused : {r : Refusal} → Refused r ≡ Kept → ⊥
-kept-refused e = let z : _≡_ {A = ℕ} 0 1 = cc in omega arith
+kept-refused e = zero-not-one cc
 
 pub limits-kept : (n w : ℕ) → limitsOf n w ≡ Kept → Dims n w
 unfolding limitsOf

@@ -5,9 +5,9 @@ use mathlib.Core.Path.{_≡_, refl}
 use mathlib.Core.Bool.{Bool, true, false}
 use mathlib.Core.Option.{some, none}
 use mathlib.Core.List.{List}
-use native.Mathlib.Omega.{arith}
 use lib.Dec.{leb}
 use borrow.Author.Tests.{leb-false, lt-leb}
+use Rattle.laws.proofs.Choices.{zero-not-one}
 use Rattle.laws.specs.Choice.{choose}
 use Rattle.laws.specs.Any.{any}
 use Rattle.laws.proofs.Anys.{any-false, any-none}
@@ -38,8 +38,8 @@ none-below m k f h b l = leb-false m (f b) (any-false k (λ b. leb m (f b)) h b 
 
 -- none of three tests
 none-of-three : (x y z : Bool) → choose x true (choose y true z) ≡ false → (x ≡ false) × (y ≡ false) × (z ≡ false)
-none-of-three true y z h = let e : _≡_ {A = ℕ} 0 1 = cc in absurd (omega arith)
-none-of-three false true z h = let e : _≡_ {A = ℕ} 0 1 = cc in absurd (omega arith)
+none-of-three true y z h = absurd (zero-not-one cc)
+none-of-three false true z h = absurd (zero-not-one cc)
 none-of-three false false z h = (refl, refl, h)
 
 module _ (n w : ℕ) (file : List ℕ) where
@@ -71,5 +71,5 @@ module _ (n w : ℕ) (file : List ℕ) where
       by : (r : Bool) → any (cycles n w) (strays n w file) ≡ r
           → choose r none (some (moveLines n w file frame (cycles n w) memory)) ≡ some out
           → ((t : ℕ) → t < cycles n w → Within n w file t) × (moveLines n w file frame (cycles n w) memory ≡ out)
-      by true e h = let z : _≡_ {A = ℕ} 0 1 = cc in absurd (omega arith)
+      by true e h = absurd (zero-not-one cc)
       by false e h = ((λ t l. strays-within t (any-false (cycles n w) (strays n w file) e t l)), cc)
