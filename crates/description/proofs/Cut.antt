@@ -1,6 +1,6 @@
 -- The program `describe` may cut its input: the first 12,292 bytes or more of a file have the description of the whole. A description says
 -- what reading says, and reading says the same of both (`read-cut`): a file that loses bytes is longer than every set, before and after.
-use Prim.Native.Nat.{ℕ, _≤_}
+use Prim.Native.Nat.{ℕ, _*_, _≤_}
 use mathlib.Core.Path.{_≡_, ap}
 use mathlib.Core.List.{List}
 use native.Mathlib.Omega.{arith}
@@ -11,7 +11,7 @@ use Rattle.description.specs.Description.{textOf, descriptionOf}
 
 pub description-cut : (file : List ℕ) (k : ℕ) → 12292 ≤ k → descriptionOf (take k file) ≡ descriptionOf file
 unfolding descriptionOf
-description-cut file k l = ap textOf (read-cut file k l (replicate mostWords 0) (replicate 8192 0))
+description-cut file k l = ap textOf (read-cut file k l (replicate mostWords 0) (replicate (2 * mostWords) 0))
 
 -- the bytes that the program keeps
 pub describe-cut : (file : List ℕ) → descriptionOf (take 16384 file) ≡ descriptionOf file

@@ -14,19 +14,27 @@ use Rattle.limits.specs.Limits.{mostWords, noWord}
 use Rattle.laws.specs.Choice.{choose}
 use Rattle.laws.specs.Any.{any}
 use Rattle.laws.proofs.Anys.{any-true, any-false, any-ext}
-use Rattle.laws.proofs.Permutations.{onto}
+use Rattle.laws.specs.Tabulate.{overwrite}
+use Rattle.laws.specs.Permutation.{inverse}
+use Rattle.laws.proofs.Choices.{ifLt-no}
+use Rattle.laws.proofs.Tabulates.{getD-overwrite}
+use Rattle.laws.proofs.Permutations.{onto, inverse-unique, inverse-ext}
 use Rattle.refusal.specs.declared.Refusal.{Refusal}
 use Rattle.network.specs.Network.{leaves}
 use Rattle.network.proofs.Carried.{leaves-kept}
 use Rattle.tables.specs.Terms.{cycles, depth}
-use Rattle.tables.specs.Format.{readAddress, switchBit, writeAddress}
+use Rattle.tables.specs.Format.{readAddress, switchBit, writeAddress, openOf}
 use Rattle.tables.specs.Datapath.{carriedTo, source, target, carryStrays}
-use Rattle.tables.specs.Reading.{ReadOutcome, readFault, writeFault, scanLines, imageOf}
+use Rattle.tables.specs.Reading.{ReadOutcome, readOutcome, readFault, writeFault, contentsOf, readAs, scanLines, imageOf, readLines, readOpened, readOf}
+use Rattle.tables.specs.declared.Shape.{Shape}
+use Rattle.tables.specs.declared.Opened.the-variants.{Set}
+use Rattle.tables.specs.declared.Contents.{Contents}
+use Rattle.tables.specs.declared.Reading.the-variants.{Read, Refused as Unread}
 use Rattle.tables.specs.inner.Lines.{Line}
 use Rattle.tables.specs.inner.Gathering.{faulty, wordAt, placeAt, Gather, Markable, Marked}
 use Rattle.tables.proofs.Dims.{Dims, word-below, word-injective, depth-reaches}
 use Rattle.tables.proofs.Accepted.{Accepted, Passes, passes-accepted, accepted-scan, scan-passes}
-use Rattle.tables.proofs.Targets.{source-found}
+use Rattle.tables.proofs.Targets.{source-found, image-permutes}
 use Rattle.tables.proofs.Lined.{read-is, write-is, source-is}
 use Rattle.tables.proofs.Marks.{faultAt}
 
@@ -299,3 +307,43 @@ module _ {n w : ℕ} {file : List ℕ} where
   pub gather-scan : {places words : List ℕ} → Gather n w file (cycles n w) places words → (refused : Refusal → ReadOutcome) (next : ReadOutcome)
       → scanLines n w file (cycles n w) 0 refused next ≡ next
   gather-scan G refused next = accepted-scan n w file refused next (gather-accepted G)
+
+  -- the gathered words are the inverse of the images
+  pub gather-leavers : {places words : List ℕ} → Dims n w → Gather n w file (cycles n w) places words → (j : ℕ) → j < n
+      → getD words j 0 ≡ inverse n (imageOf n w file) j
+  gather-leavers {places} {words} D G =
+      inverse-unique n (imageOf n w file) (image-permutes D (gather-accepted G)) (λ z. getD words z 0) λ i l.
+      let r = source-found D (gather-accepted G) i l in
+      ap (λ (z : ℕ). getD words z 0) (r .3) ∙ G .worded (r .0) (i % w) (r .1) (mod-lt i (D .wide)) ∙ r .2
+
+  -- and that of the images that reading writes
+  pub leavers-inverse : {places words : List ℕ} → Dims n w → Gather n w file (cycles n w) places words → (images : List ℕ) (contents : Contents)
+      → Read (contentsOf n w file) ≡ Read contents → (j : ℕ) → j < contents .words
+      → getD words j 0 ≡ inverse (contents .words) (λ i. getD (overwrite n (imageOf n w file) images) i 0) j
+  leavers-inverse {places} {words} D G images contents e =
+      let after : List ℕ = overwrite n (imageOf n w file) images in
+      let same : contentsOf n w file ≡ contents = cc e in
+      subst (λ (c : Contents). (j : ℕ) → j < c .words → getD words j 0 ≡ inverse (c .words) (λ i. getD after i 0) j) same λ j l.
+      gather-leavers D G j l
+      ∙ inverse-ext n (imageOf n w file) (λ i. getD after i 0) j (λ i m. sym (getD-overwrite n (imageOf n w file) images i 0 m))
+
+-- what reading answers with memory enough: a refused line's refusal, or that all lines passed
+module _ (file : List ℕ) {s : Shape} (opened : openOf file ≡ Set s) (D : Dims (s .words) (s .width)) (images scratch : List ℕ)
+    (room : mostWords ≤ length images) (scratch-room : 2 * mostWords ≤ length scratch) where
+  scanned : readOf file images scratch
+      ≡ scanLines (s .words) (s .width) file (cycles (s .words) (s .width)) 0 (λ r. readOutcome (Unread r) images)
+      (readAs (s .words) (s .width) file (overwrite (s .words) (imageOf (s .words) (s .width) file) images))
+  unfolding readOf readOpened readLines
+  scanned =
+      rw opened (sym (ifLt-no (length images) (s .words) _ _ _ (omega (arith, D .few))
+      (ifLt-no (length scratch) (2 * s .words) _ _ _ (omega (arith, D .few)) refl)))
+
+  pub stopped-reads : {r : Refusal}
+      → ((refused : Refusal → ReadOutcome) (next : ReadOutcome)
+      → scanLines (s .words) (s .width) file (cycles (s .words) (s .width)) 0 refused next ≡ refused r)
+      → readOutcome (Unread r) images ≡ readOf file images scratch
+  stopped-reads stops = sym (scanned ∙ stops (λ r. readOutcome (Unread r) images) _)
+
+  pub gathered-reads : {places words : List ℕ} → Gather (s .words) (s .width) file (cycles (s .words) (s .width)) places words
+      → readAs (s .words) (s .width) file (overwrite (s .words) (imageOf (s .words) (s .width) file) images) ≡ readOf file images scratch
+  gathered-reads G = sym (scanned ∙ gather-scan G (λ r. readOutcome (Unread r) images) _)

@@ -1,12 +1,16 @@
 // Reading a set: one pass over its lines. The permutation is gathered in arrays of the call's own, and written after the last line.
 ghost use mathlib.Core.Path.{_≡_};
-ghost use Prim.Native.Nat.{_+_, _*_, _<_, _≤_};
-ghost use lib.ListN.{length, getD};
-ghost use Rattle.limits.specs.Limits.{mostWidth, mostSwitches};
+ghost use mathlib.Core.List.{List};
+ghost use Prim.Native.Nat.{ℕ, _+_, _*_, _<_, _≤_};
+ghost use lib.ListN.{length, getD, replicate};
+ghost use Rattle.limits.specs.Limits.{mostWords, mostWidth, mostSwitches, noWord};
+ghost use Rattle.laws.specs.Permutation.{inverse};
 ghost use Rattle.laws.specs.Tabulate.{overwrite};
 ghost use Rattle.tables.specs.Terms.{cycles};
 ghost use Rattle.tables.specs.Format.{Shaped};
 ghost use Rattle.tables.specs.Reading.{readOutcome, readLines, readOf};
+ghost use Rattle.tables.specs.declared.Contents.{Contents};
+ghost use Rattle.tables.specs.declared.Reading.the-variants.{Read};
 ghost use Rattle.tables.specs.inner.Gathering.{faulty, Gather, Gathers, GathersAll, Markable, Marked};
 use crate::Contents;
 use crate::Opened;
@@ -176,5 +180,29 @@ pub fn read(file: &[u8], images: &mut [u16], scratch: &[u16]) -> Reading
     match open(file) {
         Opened::Refused(refusal) => Reading::Refused(refusal),
         Opened::Set(shape) => read_set(file, shape, images, scratch),
+    }
+}
+
+// Reads a set: n and w, and the word that leaves at each place below n. It answers as reading with memory enough, and the words are the
+// inverse of the images that reading writes.
+pub fn read_leavers(file: &[u8], leavers: &mut [u16]) -> Reading
+    requires { ⌜ now leavers ≡ replicate mostWords noWord ⌝ }
+    ensures { λ r. ⌜ ((images scratch : List ℕ) → mostWords ≤ length images → 2 * mostWords ≤ length scratch
+        → (after : List ℕ) × (readOutcome r after ≡ readOf (now (file .entry)) images scratch)
+        × ((contents : Contents) → r ≡ Read contents → (j : ℕ) → j < contents .words
+        → getD (now (leavers .exit)) j 0 ≡ inverse (contents .words) (λ i. getD after i 0) j)) ⌝ }
+{
+    match open(file) {
+        Opened::Refused(refusal) => Reading::Refused(refusal),
+        Opened::Set(shape) => {
+            let mut place_of = [NO_WORD; MOST_WORDS];
+            match gather(file, shape, &mut place_of, leavers) {
+                Gathered::Refused(refusal) => Reading::Refused(refusal),
+                Gathered::All => Reading::Read(Contents {
+                    words: shape.words,
+                    width: shape.width,
+                }),
+            }
+        }
     }
 }

@@ -4,6 +4,7 @@ mod lines;
 mod opening;
 
 pub use gathering::read;
+pub use gathering::read_leavers;
 pub use lines::any_from;
 pub use lines::line_at;
 pub use lines::numbered;

@@ -1,15 +1,14 @@
--- `description::put_text` meets its contract: turn i writes character i.
+-- `text::put_text` meets its contract: turn i writes character i.
 use Prim.Native.Nat.{ℕ, _+_, _-_, _≤_}
 use mathlib.Core.Path.{_≡_, ap, _∙_}
-use mathlib.Core.List.{List}
 use native.Mathlib.Omega.{arith}
 use borrow.Author.Needs.{needs}
 use lib.ListN.{length, take}
-use lib.Seq.{sets, take-length}
-use Rattle.description.specs.inner.Writing.{Wrote}
-use Rattle.description.proofs.Texts.{wrote-length, wrote-none, front-more}
-use Rattle.description.proofs.put_text.Statement.{statement}
-use Rattle.description.proofs.put_text.Tie as tie
+use lib.Seq.{take-length}
+use Rattle.text.specs.inner.Writing.{Wrote}
+use Rattle.text.proofs.Texts.{wrote-length, wrote-none, front-more, wrote-same}
+use Rattle.text.proofs.put_text.Statement.{statement}
+use Rattle.text.proofs.put_text.Tie as tie
 
 abbrev Inv-loop : tie.InvT-loop
 Inv-loop text₀ at characters i₀ text i = (i ≤ length characters) × Wrote text₀ at (take i characters) (at + i) text
@@ -45,7 +44,12 @@ same-length : tie.Need-same-length Inv-loop μ-loop
 same-length c = wrote-length (c .before .loop .inv .1)
 
 returns : tie.Need-returns Inv-loop μ-loop
-returns c = let s = c .before .before in let e : c .before .loop .i ≡ length (s .args .characters .now) = omega arith in let W = c .before .loop .inv .1 in record { made = W .made ∙ ap (λ (xs : List ℕ). sets (s .args .text .now) (s .args .at) xs) (ap (λ (k : ℕ). take k (s .args .characters .now)) e ∙ take-length (s .args .characters .now)); end = ap (λ (k : ℕ). s .args .at + k) e }
+returns c =
+    let a = c .before .before .args in
+    let xs = a .characters .now in
+    let l = c .before .loop in
+    let all : l .i ≡ length xs = omega arith in
+    wrote-same (ap (λ (k : ℕ). take k xs) all ∙ take-length xs) (l .inv .1)
 
 pub put-text-spec : {M : Type 1} → statement M
 put-text-spec =
