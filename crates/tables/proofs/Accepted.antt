@@ -35,7 +35,7 @@ not-both {r} h g = zero-not-one cc
 -- ---- one bank: f t is its address in line t
 
 -- the address is c or more, or an earlier line's
-abbrev fault : ℕ → (ℕ → ℕ) → ℕ → Bool
+abbrev pub fault : ℕ → (ℕ → ℕ) → ℕ → Bool
 fault c f t = choose (leb c (f t)) true (any t (λ s. eqb (f s) (f t)))
 
 module _ (c : ℕ) (f : ℕ → ℕ) (t : ℕ) where
@@ -50,10 +50,10 @@ module _ (c : ℕ) (f : ℕ → ℕ) (t : ℕ) where
   fault-none : f t < c → ((s : ℕ) → s < t → f s ≡ f t → ⊥) → fault c f t ≡ false
   fault-none l fresh = rw (lt-leb c (f t) l) (any-none t (λ s. eqb (f s) (f t)) (λ s m. ne-eqb (f s) (f t) (fresh s m)))
 
-  sound-below : fault c f t ≡ false → f t < c
+  pub sound-below : fault c f t ≡ false → f t < c
   sound-below h = elim (decLt (f t) c) [ yes l ↦ l | no l ↦ absurd (not-both (fault-large (omega arith)) h) ]
 
-  sound-fresh : fault c f t ≡ false → (s : ℕ) → s < t → f s ≡ f t → ⊥
+  pub sound-fresh : fault c f t ≡ false → (s : ℕ) → s < t → f s ≡ f t → ⊥
   sound-fresh h s l e = not-both (fault-repeated s l e) h
 
 -- ---- one row of w banks: f t b is the address of bank b in line t

@@ -33,26 +33,10 @@ use Rattle.tables.specs.declared.Reading.the-variants.{Read, Refused as 
 use Rattle.tables.specs.inner.Lines.{Line}
 use Rattle.tables.specs.inner.Gathering.{faulty, wordAt, placeAt, Gather, Markable, Marked}
 use Rattle.tables.proofs.Dims.{Dims, word-below, word-injective, depth-reaches}
-use Rattle.tables.proofs.Accepted.{Accepted, Passes, passes-accepted, accepted-scan, scan-passes}
+use Rattle.tables.proofs.Accepted.{Accepted, Passes, sound-below, sound-fresh, passes-accepted, accepted-scan, scan-passes}
 use Rattle.tables.proofs.Targets.{source-found, image-permutes}
 use Rattle.tables.proofs.Lined.{read-is, write-is, source-is}
 use Rattle.tables.proofs.Marks.{faultAt}
-
--- an address that is not faulty is in the frame
-fault-below : (c x : ℕ) (r : Bool) → choose (leb c x) true r ≡ false → x < c
-fault-below c x r h = by (leb c x) refl h
-  where
-    by : (q : Bool) → leb c x ≡ q → choose q true r ≡ false → x < c
-    by true e g = let z : _≡_ {A = ℕ} 0 1 = cc in absurd (omega arith)
-    by false e g = leb-false c x e
-
--- nor is it an earlier one
-fault-fresh : (t : ℕ) (address : ℕ → ℕ) (c x : ℕ) → choose (leb c x) true (any t (λ s. eqb (address s) x)) ≡ false → (s : ℕ) → s < t → address s ≡ x → ⊥
-fault-fresh t address c x h s l = by (leb c x) h
-  where
-    by : (q : Bool) → choose q true (any t (λ s. eqb (address s) x)) ≡ false → address s ≡ x → ⊥
-    by true g e = let z : _≡_ {A = ℕ} 0 1 = cc in absurd (omega arith)
-    by false g e = eqb-false (address s) x (any-false t (λ s. eqb (address s) x) g s l) e
 
 -- nothing gathered
 pub gather-none : (n w : ℕ) (file : List ℕ) → Dims n w → Gather n w file 0 (replicate mostWords noWord) (replicate mostWords noWord)
@@ -100,11 +84,11 @@ module _ {n w : ℕ} {file : List ℕ} {t : ℕ} {places words reads sources wri
   -- what passed before
   before-read : (s b : ℕ) → s < t → b < w → readAddress n w file s b < cycles n w
   unfolding readFault
-  before-read s b l m = fault-below (cycles n w) (readAddress n w file s b) _ (any-false w (readFault n w file s) (G .passed s l .0) b m)
+  before-read s b l m = sound-below (cycles n w) (λ z. readAddress n w file z b) s (any-false w (readFault n w file s) (G .passed s l .0) b m)
 
   before-write : (s k : ℕ) → s < t → k < w → writeAddress n w file s k < cycles n w
   unfolding writeFault
-  before-write s k l m = fault-below (cycles n w) (writeAddress n w file s k) _ (any-false w (writeFault n w file s) (G .passed s l .2) k m)
+  before-write s k l m = sound-below (cycles n w) (λ z. writeAddress n w file z k) s (any-false w (writeFault n w file s) (G .passed s l .2) k m)
 
   before-carried : (s : ℕ) → s < t → (b : ℕ) → b < w → carriedTo n w file s b < w
   unfolding carryStrays
@@ -151,11 +135,11 @@ module _ {n w : ℕ} {file : List ℕ} {t : ℕ} {places words reads sources wri
   module _ (no-read : any w (readFault n w file t) ≡ false) (no-carry : carryStrays n w file t ≡ false) (no-write : any w (writeFault n w file t) ≡ false) where
     now-read : (b : ℕ) → b < w → readAddress n w file t b < cycles n w
     unfolding readFault
-    now-read b l = fault-below (cycles n w) (readAddress n w file t b) _ (any-false w (readFault n w file t) no-read b l)
+    now-read b l = sound-below (cycles n w) (λ z. readAddress n w file z b) t (any-false w (readFault n w file t) no-read b l)
 
     now-write : (k : ℕ) → k < w → writeAddress n w file t k < cycles n w
     unfolding writeFault
-    now-write k l = fault-below (cycles n w) (writeAddress n w file t k) _ (any-false w (writeFault n w file t) no-write k l)
+    now-write k l = sound-below (cycles n w) (λ z. writeAddress n w file z k) t (any-false w (writeFault n w file t) no-write k l)
 
     now-carried : (b : ℕ) → b < w → carriedTo n w file t b < w
     unfolding carryStrays
@@ -163,11 +147,11 @@ module _ {n w : ℕ} {file : List ℕ} {t : ℕ} {places words reads sources wri
 
     fresh-read : (s b : ℕ) → s < t → b < w → readAddress n w file s b ≡ readAddress n w file t b → ⊥
     unfolding readFault
-    fresh-read s b l m = fault-fresh t (λ s. readAddress n w file s b) (cycles n w) (readAddress n w file t b) (any-false w (readFault n w file t) no-read b m) s l
+    fresh-read s b l m = sound-fresh (cycles n w) (λ z. readAddress n w file z b) t (any-false w (readFault n w file t) no-read b m) s l
 
     fresh-write : (s k : ℕ) → s < t → k < w → writeAddress n w file s k ≡ writeAddress n w file t k → ⊥
     unfolding writeFault
-    fresh-write s k l m = fault-fresh t (λ s. writeAddress n w file s k) (cycles n w) (writeAddress n w file t k) (any-false w (writeFault n w file t) no-write k m) s l
+    fresh-write s k l m = sound-fresh (cycles n w) (λ z. writeAddress n w file z k) t (any-false w (writeFault n w file t) no-write k m) s l
 
     -- the bank whose word goes to bank k
     bank : (k : ℕ) → k < w → (getD sources k 0 < w) × (carriedTo n w file t (getD sources k 0) ≡ k)
