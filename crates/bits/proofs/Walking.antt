@@ -48,7 +48,8 @@ module _ (κs : Lfts 1) where
   pub tells : Tells Row (Is Row) (LL.vals Kind kind-laws)
   tells = LL.tells Kind kind-laws
 
-  pub typed : {M : Type 1} (𝓤 : URA M) (H : Heap 𝓤) (A : Atoms 𝓤) → Given 𝓤 H A → (d : Reader) (v : Val) → Is Row d (v ∷ []) → Holds (hasTy (T′.mir (named 0)) v) × WT v
+  pub typed : {M : Type 1} (𝓤 : URA M) (H : Heap 𝓤) (A : Atoms 𝓤) → Given 𝓤 H A → (d : Reader) (v : Val) → Is Row d (v ∷ [])
+      → Holds (hasTy (T′.mir (named 0)) v) × WT v
   typed 𝓤 H A W d v is = LL.lawful Kind kind-laws 𝓤 H A W .typed d (v ∷ []) is .0
 
 -- ---- parameters at exit: each is owned as it was passed
@@ -72,7 +73,8 @@ module _ {M : Type 1} (𝓤 : URA M) (H : Heap 𝓤) (A : Atoms 𝓤) (W : Given
   bytes-goes = goes-none-slice 𝓤 H A W 1 (0 ∷ []) tt (plain (λ _. u8)) yes
 
 -- the item i, which stands at n, before the others
-pulled : {M : Type 1} (𝓤 : URA M) (H : Heap 𝓤) (A : Atoms 𝓤) (Γ : List (Item 𝓤)) (n : ℕ) {i : Item 𝓤} → nth 𝓤 H A n Γ ≡ i → ent 𝓤 (⋆ 𝓤 H A Γ) (sep 𝓤 (mean 𝓤 H A i) (⋆ 𝓤 H A (del 𝓤 H A n Γ)))
+pulled : {M : Type 1} (𝓤 : URA M) (H : Heap 𝓤) (A : Atoms 𝓤) (Γ : List (Item 𝓤)) (n : ℕ) {i : Item 𝓤} → nth 𝓤 H A n Γ ≡ i
+    → ent 𝓤 (⋆ 𝓤 H A Γ) (sep 𝓤 (mean 𝓤 H A i) (⋆ 𝓤 H A (del 𝓤 H A n Γ)))
 pulled 𝓤 H A Γ n e = subst (λ (j : Item 𝓤). ent 𝓤 (⋆ 𝓤 H A Γ) (sep 𝓤 (mean 𝓤 H A j) (⋆ 𝓤 H A (del 𝓤 H A n Γ)))) e (pull 𝓤 H A n Γ)
 
 -- ---- steps
@@ -82,21 +84,28 @@ module _ {M : Type 1} {𝓤 : URA M} {H : Heap 𝓤} {A : Atoms 𝓤} {K : Type 
   number t n fits = owned t usize (Is usize) (uint-makes 𝓤 H A W w64) n (vint w64 n ∷ []) (refl, fits)
 
   -- a callee T without a `&mut` has returned u: its result r is had at the head, the tokens behind it, and what its `ensures` says of r is known
-  pub returned : K → {G : Goal 𝓤 H} → Soaks G → (T : Ended) (κs : Lfts (T .signature .lifetimes)) (a : Args (T .signature) κs) (tokens : Item 𝓤) (R : RattleType) (φ : R .Denot → Type 0) (u : Val)
+  pub returned : K → {G : Goal 𝓤 H} → Soaks G
+      → (T : Ended) (κs : Lfts (T .signature .lifetimes)) (a : Args (T .signature) κs) (tokens : Item 𝓤) (R : RattleType) (φ : R .Denot → Type 0) (u : Val)
       → ((r : R .Denot) → φ r → Seq K W (‵ (R .own r (u ∷ [])) ∷ tokens ∷ Γ) G)
-      → Seq K W (raw (H .⇛ (ex 𝓤 (λ (r : R .Denot). sep 𝓤 (sep 𝓤 (mean 𝓤 H A tokens) (sem 𝓤 H A (R .own r (u ∷ [])))) (ex 𝓤 (λ (ws : Lasts T κs a). sep 𝓤 (sem 𝓤 H A (lasts T κs a ws)) (fact 𝓤 (φ r))))))) ∷ Γ) G
+      → Seq K W (raw (H .⇛ (ex 𝓤 (λ (r : R .Denot). sep 𝓤 (sep 𝓤 (mean 𝓤 H A tokens) (sem 𝓤 H A (R .own r (u ∷ []))))
+      (ex 𝓤 (λ (ws : Lasts T κs a). sep 𝓤 (sem 𝓤 H A (lasts T κs a ws)) (fact 𝓤 (φ r))))))) ∷ Γ) G
   returned t soaks T κs a tokens R φ u k =
-      use1 W (later (some (λ (r : R .Denot). (tokens ⊛ ‵ (R .own r (u ∷ []))) ⊛ raw (ex 𝓤 (λ (ws : Lasts T κs a). sep 𝓤 (sem 𝓤 H A (lasts T κs a ws)) (fact 𝓤 (φ r))))))) (id⊢ 𝓤 _) $ await t soaks $ pick t (λ r.
-      split t $ move t (1 ∷ []) $ use1 W (raw (fact 𝓤 (φ r))) (exE 𝓤 _ (λ ws. snd∗ 𝓤 (sem 𝓤 H A (lasts T κs a ws)) (fact 𝓤 (φ r)))) $ heard t (φ r) (λ e. split t $ move t (1 ∷ []) $ k r e))
+      use1 W (later (some (λ (r : R .Denot). (tokens ⊛ ‵ (R .own r (u ∷ [])))
+      ⊛ raw (ex 𝓤 (λ (ws : Lasts T κs a). sep 𝓤 (sem 𝓤 H A (lasts T κs a ws)) (fact 𝓤 (φ r))))))) (id⊢ 𝓤 _) $ await t soaks $ pick t (λ r.
+      split t $ move t (1 ∷ []) $ use1 W (raw (fact 𝓤 (φ r))) (exE 𝓤 _ (λ ws. snd∗ 𝓤 (sem 𝓤 H A (lasts T κs a ws)) (fact 𝓤 (φ r)))) $
+      heard t (φ r) (λ e. split t $ move t (1 ∷ []) $ k r e))
 
   -- the first local is freed, whose cell stands at n
-  pub leave : K → (n : ℕ) {τ : Ty} {b : ℕ} {v : Val} {E : Env 𝓤 H} {g : Goal 𝓤 H} → nth 𝓤 H A n Γ ≡ ‵ (fat fullShare τ b zero v) → nth 𝓤 H A n (del 𝓤 H A n Γ) ≡ ‵ (fdies τ b)
+  pub leave : K → (n : ℕ) {τ : Ty} {b : ℕ} {v : Val} {E : Env 𝓤 H} {g : Goal 𝓤 H} → nth 𝓤 H A n Γ ≡ ‵ (fat fullShare τ b zero v)
+      → nth 𝓤 H A n (del 𝓤 H A n Γ) ≡ ‵ (fdies τ b)
       → Step K W (del 𝓤 H A n (del 𝓤 H A n Γ)) (frees E g) Γ (frees ((τ, b) ∷ E) g)
   leave t n {τ} {b} {v} {E} {g} cell dies = step (λ s. record {
     prf =
         via 𝓤 (sep 𝓤 (H .at fullShare τ b zero v) (⋆ 𝓤 H A (del 𝓤 H A n Γ))) (pulled 𝓤 H A Γ n cell)
         (via 𝓤 (sep 𝓤 (H .room τ b zero) (⋆ 𝓤 H A (del 𝓤 H A n Γ))) (monoL 𝓤 (⋆ 𝓤 H A (del 𝓤 H A n Γ)) (W .laws .at-room τ b zero v))
-        (via 𝓤 (sep 𝓤 (H .room τ b zero) (sep 𝓤 (H .dies τ b) (⋆ 𝓤 H A (del 𝓤 H A n (del 𝓤 H A n Γ))))) (monoR 𝓤 (H .room τ b zero) (pulled 𝓤 H A (del 𝓤 H A n Γ) n dies))
-        (via 𝓤 (sep 𝓤 (sep 𝓤 (H .room τ b zero) (H .dies τ b)) (⋆ 𝓤 H A (del 𝓤 H A n (del 𝓤 H A n Γ)))) (Logic.assoc′ 𝓤 (H .room τ b zero) (H .dies τ b) (⋆ 𝓤 H A (del 𝓤 H A n (del 𝓤 H A n Γ))))
+        (via 𝓤 (sep 𝓤 (H .room τ b zero) (sep 𝓤 (H .dies τ b) (⋆ 𝓤 H A (del 𝓤 H A n (del 𝓤 H A n Γ)))))
+        (monoR 𝓤 (H .room τ b zero) (pulled 𝓤 H A (del 𝓤 H A n Γ) n dies))
+        (via 𝓤 (sep 𝓤 (sep 𝓤 (H .room τ b zero) (H .dies τ b)) (⋆ 𝓤 H A (del 𝓤 H A n (del 𝓤 H A n Γ))))
+        (Logic.assoc′ 𝓤 (H .room τ b zero) (H .dies τ b) (⋆ 𝓤 H A (del 𝓤 H A n (del 𝓤 H A n Γ))))
         (monoR 𝓤 (sep 𝓤 (H .room τ b zero) (H .dies τ b)) (s .prf)))));
   })

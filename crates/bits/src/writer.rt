@@ -35,7 +35,8 @@ pub fn writer_at(bytes: &[u8], at: usize) -> Writer
 pub fn write(bytes: &mut [u8], writer: Writer, width: usize, value: u16) -> Writer
     requires { ⌜ (width ≤ 16) × (value < 2 ^ width) ⌝ }
     requires { ⌜ Open writer × (positionOf writer + width ≤ 8 * length (now bytes)) × Bytes (now bytes) ⌝ }
-    ensures { λ r. ⌜ Open r × (positionOf r ≡ positionOf writer + width) × (wholeOf (now (bytes .exit)) r ≡ putField (wholeOf (now (bytes .entry)) writer) (positionOf writer) width value) ⌝ }
+    ensures { λ r. ⌜ Open r × (positionOf r ≡ positionOf writer + width)
+        × (wholeOf (now (bytes .exit)) r ≡ putField (wholeOf (now (bytes .entry)) writer) (positionOf writer) width value) ⌝ }
 {
     let mut first = writer.first;
     let mut held = writer.held + width;

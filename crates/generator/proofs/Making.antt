@@ -79,7 +79,8 @@ module _ {n w : ℕ} {p : ℕ → ℕ} {reads : ℕ → ℕ → ℕ} {t : ℕ} {
       → Written (setBits n w p more) before (putLine n w file (lineAt n w t) addresses forward writes) (lineAt n w (t + 1))
   making-more {before} l fits W =
       line-written n w p more before t l fits addresses forward writes lines plan-read plan-carried plan-write
-      (written-ext (setBits-prefix (D .wide) n p reads more t (omega arith) (λ s b m q. sym (extended-same reads t (addressOf w words) s b (λ e. omega arith)))) W)
+      (written-ext (setBits-prefix (D .wide) n p reads more t (omega arith)
+      (λ s b m q. sym (extended-same reads t (addressOf w words) s b (λ e. omega arith)))) W)
 
   -- and the line can be put
   pub plan-ready : Ready n w addresses forward back writes

@@ -63,8 +63,10 @@ fn take_word(
     port: usize,
 ) -> u16
     requires { ⌜ (length (now heads) ≡ headCount) × (length (now edges) ≡ mostWidth) × (length (now owner) ≡ mostWidth) × (port < mostWidth) ⌝ }
-    requires { ⌜ (getD (now owner) port 0 < mostWidth) × Edge (now edges) (getD (now owner) port 0) port × (headAt (now heads) (getD (now owner) port 0) port < length (now next)) ⌝ }
-    ensures { λ r. ⌜ Advanced (now (next .entry)) (now (heads .entry)) (now (edges .entry)) (now (owner .entry)) port r (now (heads .exit)) (now (edges .exit)) (now (owner .exit)) ⌝ }
+    requires { ⌜ (getD (now owner) port 0 < mostWidth) × Edge (now edges) (getD (now owner) port 0) port
+        × (headAt (now heads) (getD (now owner) port 0) port < length (now next)) ⌝ }
+    ensures { λ r. ⌜ Advanced (now (next .entry)) (now (heads .entry)) (now (edges .entry)) (now (owner .entry)) port r
+        (now (heads .exit)) (now (edges .exit)) (now (owner .exit)) ⌝ }
 {
     let place = owner[port] as usize * MOST_WIDTH + port;
     let word = heads[place];
@@ -87,7 +89,8 @@ fn take_words(
 )
     requires { ⌜ Takeable (now next) (now heads) (now edges) (now owner) w ⌝ }
     requires { ⌜ length (now words) ≡ mostWidth ⌝ }
-    ensures { λ _. ⌜ Takes (now (next .entry)) (now (heads .entry)) (now (edges .entry)) (now (owner .entry)) w (now (words .exit)) (now (heads .exit)) (now (edges .exit)) (now (owner .exit)) ⌝ }
+    ensures { λ _. ⌜ Takes (now (next .entry)) (now (heads .entry)) (now (edges .entry)) (now (owner .entry)) w
+        (now (words .exit)) (now (heads .exit)) (now (edges .exit)) (now (owner .exit)) ⌝ }
 {
     let mut k = 0;
     while k < w {
@@ -107,7 +110,8 @@ pub fn take_line(
 )
     requires { ⌜ ((n : ℕ) × (p : ℕ → ℕ) × (reads : ℕ → ℕ → ℕ) × (t : ℕ) × Due n w p reads t (now next) (now heads) (now edges) (now owner)) ⌝ }
     requires { ⌜ length (now words) ≡ mostWidth ⌝ }
-    ensures { λ _. ⌜ ((n : ℕ) (p : ℕ → ℕ) (reads : ℕ → ℕ → ℕ) (t : ℕ) → Due n w p reads t (now (next .entry)) (now (heads .entry)) (now (edges .entry)) (now (owner .entry))
+    ensures { λ _. ⌜ ((n : ℕ) (p : ℕ → ℕ) (reads : ℕ → ℕ → ℕ) (t : ℕ)
+        → Due n w p reads t (now (next .entry)) (now (heads .entry)) (now (edges .entry)) (now (owner .entry))
         → Took n w p reads t (now (words .exit)) (now (heads .exit)) (now (edges .exit)) (now (owner .exit))) ⌝ }
 {
     complete(edges, w, owner);

@@ -25,7 +25,8 @@ module _ (images : List ℕ) where
   earlier-met zero x j l e = absurd (omega arith)
   earlier-met (suc i) x j l e = sym (elim (ℕ-discrete x (getD images i 0)) [
     | yes q ↦ ifEq-yes x (getD images i 0) 1 1 (earlier images i x) q refl
-    | no q ↦ ifEq-no x (getD images i 0) 1 1 (earlier images i x) q (sym (earlier-met i x j (elim (ℕ-discrete j i) [ yes z ↦ absurd (q (sym e ∙ ap (λ (k : ℕ). getD images k 0) z)) | no z ↦ omega arith ]) e))
+    | no q ↦ ifEq-no x (getD images i 0) 1 1 (earlier images i x) q
+        (sym (earlier-met i x j (elim (ℕ-discrete j i) [ yes z ↦ absurd (q (sym e ∙ ap (λ (k : ℕ). getD images k 0) z)) | no z ↦ omega arith ]) e))
   ])
 
   -- a mark comes from an earlier element
@@ -75,5 +76,10 @@ module _ (images : List ℕ) where
   pub permutes-check : (n : ℕ) → Permutes n (orderOf n images) → checkOf images n ≡ Permutation
   unfolding checkOf Passes
   permutes-check n P = passes-scan n n 0 λ j l m.
-      let b : j < n = omega arith in
-      (P .below j b, λ e. let r = earlier-found j (getD images j 0) e in let q : r .0 ≡ j = P .injective (r .0) j (omega (arith, r .1)) b (r .2) in omega (arith, r .1))
+      let b : j < n = omega arith in (
+        P .below j b,
+        λ e.
+            let r = earlier-found j (getD images j 0) e in
+            let q : r .0 ≡ j = P .injective (r .0) j (omega (arith, r .1)) b (r .2) in
+            omega (arith, r .1),
+      )

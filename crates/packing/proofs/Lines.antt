@@ -80,7 +80,8 @@ module _ {n w : ℕ} {s : Shape} {forward back : List ℕ} (P : Placed n w s) (R
   front-same x l = getD-take (s .lines) forward x 0 (omega (arith, P .lines))
 
   -- the bits that were set are those of the permutation
-  pub bits-known : {bits : List ℕ} → ((d : ℕ) → Sized (length (take (s .lines) forward)) (s .switches) d → bits ≡ setting d (λ i. getD (take (s .lines) forward) i 0))
+  pub bits-known : {bits : List ℕ}
+      → ((d : ℕ) → Sized (length (take (s .lines) forward)) (s .switches) d → bits ≡ setting d (λ i. getD (take (s .lines) forward) i 0))
       → bits ≡ setting (depth w) (λ x. getD forward x 0)
   unfolding switchBits
   bits-known h =

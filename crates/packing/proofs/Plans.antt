@@ -35,7 +35,8 @@ planned-none p words B = record {
 }
 
 -- one more port
-pub planned-more : {w m : ℕ} {p : ℕ → ℕ} {words reads forward back writes : List ℕ} → Planned w p words m reads forward back writes → 0 < w → w ≤ mostWidth → m < w
+pub planned-more : {w m : ℕ} {p : ℕ → ℕ} {words reads forward back writes : List ℕ}
+    → Planned w p words m reads forward back writes → 0 < w → w ≤ mostWidth → m < w
     → Injective w (λ k. getD words k 0 % w)
     → Planned w p words (m + 1) (set reads (getD words m 0 % w) (getD words m 0 / w)) (set forward (getD words m 0 % w) m)
     (set back m (getD words m 0 % w)) (set writes m (p (getD words m 0) / w))
@@ -51,7 +52,9 @@ planned-more {w} {m} {p} {words} {reads} {forward} {back} {writes} P some few l 
   read = stored-turn reads bank (λ k. getD words k 0 / w) m (getD words m 0 / w) 0 (omega (arith, B .reads-long, below)) apart refl (P .read);
   ahead = stored-turn forward bank (λ k. k) m m 0 (omega (arith, B .forward-long, below)) apart refl (P .ahead);
   from = stored-turn back (λ k. k) bank m b 0 (omega (arith, B .back-long)) (λ k n e. omega arith) refl (P .from);
-  written = stored-turn writes (λ k. k) (λ k. p (getD words k 0) / w) m (p (getD words m 0) / w) 0 (omega (arith, B .writes-long)) (λ k n e. omega arith) refl (P .written);
+  written =
+      stored-turn writes (λ k. k) (λ k. p (getD words k 0) / w) m (p (getD words m 0) / w) 0 (omega (arith, B .writes-long))
+      (λ k n e. omega arith) refl (P .written);
 }
   where
     B : Blank w reads forward back writes

@@ -88,7 +88,8 @@ module _ (n w : ℕ) (p : ℕ → ℕ) (reads : ℕ → ℕ → ℕ) (before : L
         let e : lineAt n w t + addressRow n w + switchBits w * 1 ≡ lineAt n w t + addressRow n w + switchBits w = omega arith in
         let s : setting (depth w) (carried w (portOf w p reads t)) ≡ setting (depth w) forward =
         setting-ext (depth w) (carried w (portOf w p reads t)) forward P (λ x m. sym (same x m)) in
-        subst (λ (z : ℕ). Written (setBits n w p reads) before (putFields file (lineAt n w t + addressRow n w) 1 (setting (depth w) forward) (switchBits w)) z) e
+        subst (λ (z : ℕ). Written (setBits n w p reads) before
+        (putFields file (lineAt n w t + addressRow n w) 1 (setting (depth w) forward) (switchBits w)) z) e
         (fields-written 1 (setting (depth w) forward) (switchBits w) W (omega (arith, ends)) λ i j m q.
         let z : j ≡ 0 = omega arith in
         let f : lineAt n w t + addressRow n w + i * 1 + j ≡ lineAt n w t + addressRow n w + i = omega arith in

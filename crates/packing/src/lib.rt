@@ -1,4 +1,5 @@
-// Puts a table set into a lent buffer: `begin`, `put_line` for each line, `end`, all by one writer. Only our own crates call these functions, so they may have a `requires`.
+// Puts a table set into a lent buffer: `begin`, `put_line` for each line, `end`, all by one writer. Only our own crates call these functions,
+// so they may have a `requires`.
 ghost use mathlib.Core.Path.{_≡_};
 ghost use Prim.Native.Nat.{ℕ, _+_, _*_, _^_, _%_, _<_, _≤_};
 ghost use lib.ListN.{length, getD, take};
@@ -31,7 +32,9 @@ fn put_addresses(
 ) -> Writer
     requires { ⌜ (width ≤ 16) × (count ≤ length (now values)) × ((i : ℕ) → i < count → getD (now values) i 0 < 2 ^ width) ⌝ }
     requires { ⌜ Open writer × (positionOf writer + count * width ≤ 8 * length (now file)) ⌝ }
-    ensures { λ r. ⌜ Open r × (positionOf r ≡ positionOf writer + count * width) × (wholeOf (now (file .exit)) r ≡ putFields (wholeOf (now (file .entry)) writer) (positionOf writer) width (now (values .entry)) count) ⌝ }
+    ensures { λ r. ⌜ Open r × (positionOf r ≡ positionOf writer + count * width)
+        × (wholeOf (now (file .exit)) r
+        ≡ putFields (wholeOf (now (file .entry)) writer) (positionOf writer) width (now (values .entry)) count) ⌝ }
 {
     let mut current = writer;
     let mut i = 0;
@@ -61,7 +64,9 @@ fn number_of(values: &[u8], from: usize, count: usize) -> u16
 fn put_bits(file: &mut [u8], writer: Writer, values: &[u8]) -> Writer
     requires { ⌜ (length (now values) ≤ mostSwitches) × ((i : ℕ) → i < length (now values) → getD (now values) i 0 < 2) ⌝ }
     requires { ⌜ Open writer × (positionOf writer + length (now values) ≤ 8 * length (now file)) ⌝ }
-    ensures { λ r. ⌜ Open r × (positionOf r ≡ positionOf writer + length (now (values .entry))) × (wholeOf (now (file .exit)) r ≡ putFields (wholeOf (now (file .entry)) writer) (positionOf writer) 1 (now (values .entry)) (length (now (values .entry)))) ⌝ }
+    ensures { λ r. ⌜ Open r × (positionOf r ≡ positionOf writer + length (now (values .entry)))
+        × (wholeOf (now (file .exit)) r
+        ≡ putFields (wholeOf (now (file .entry)) writer) (positionOf writer) 1 (now (values .entry)) (length (now (values .entry)))) ⌝ }
 {
     let mut current = writer;
     let mut i = 0;
@@ -111,7 +116,8 @@ pub fn plan_line(
     requires { ⌜ (0 < w) × (w ≤ mostWidth) × (length (now words) ≡ mostWidth) × Injective w (λ k. getD (now words) k 0 % w) ⌝ }
     requires { ⌜ ((k : ℕ) → k < w → (getD (now words) k 0 < length (now images)) × (getD (now words) k 0 < mostWords)) ⌝ }
     requires { ⌜ Blank w (now reads) (now forward) (now back) (now writes) ⌝ }
-    ensures { λ _. ⌜ Planned w (orderOf (length (now (images .entry))) (now (images .entry))) (now (words .entry)) w (now (reads .exit)) (now (forward .exit)) (now (back .exit)) (now (writes .exit)) ⌝ }
+    ensures { λ _. ⌜ Planned w (orderOf (length (now (images .entry))) (now (images .entry))) (now (words .entry)) w
+        (now (reads .exit)) (now (forward .exit)) (now (back .exit)) (now (writes .exit)) ⌝ }
 {
     let mut k = 0;
     while k < w {
@@ -128,8 +134,11 @@ pub fn plan_line(
 // Sets the first `count` bits to those of the network that carries its lines as `forward` says.
 fn set_switches(forward: &[u8], back: &[u8], switches: &mut [u8], count: usize)
     requires { ⌜ ((d : ℕ) × Sized (length (now forward)) count d) ⌝ }
-    requires { ⌜ (length (now forward) ≤ mostWidth) × (count ≤ mostSwitches) × Inverses (now forward) (now back) × (length (now switches) ≡ mostSwitches) ⌝ }
-    ensures { λ _. ⌜ (length (now (switches .exit)) ≡ mostSwitches) × ((d : ℕ) → Sized (length (now (forward .entry))) count d → take count (now (switches .exit)) ≡ setting d (λ i. getD (now (forward .entry)) i 0)) ⌝ }
+    requires { ⌜ (length (now forward) ≤ mostWidth) × (count ≤ mostSwitches)
+        × Inverses (now forward) (now back) × (length (now switches) ≡ mostSwitches) ⌝ }
+    ensures { λ _. ⌜ (length (now (switches .exit)) ≡ mostSwitches)
+        × ((d : ℕ) → Sized (length (now (forward .entry))) count d
+        → take count (now (switches .exit)) ≡ setting d (λ i. getD (now (forward .entry)) i 0)) ⌝ }
 {
     setting::set_bits(forward, back, &mut switches[..count]);
 }
@@ -145,7 +154,11 @@ fn put_switches(
 ) -> Writer
     requires { ⌜ Shaped shape × Wired (shape .width) (now forward) (now back) ⌝ }
     requires { ⌜ Open writer × (positionOf writer + shape .switches ≤ 8 * length (now file)) × (length (now switches) ≡ mostSwitches) ⌝ }
-    ensures { λ r. ⌜ Open r × (positionOf r ≡ positionOf writer + shape .switches) × (wholeOf (now (file .exit)) r ≡ putFields (wholeOf (now (file .entry)) writer) (positionOf writer) 1 (setting (depth (shape .width)) (λ x. getD (now (forward .entry)) x 0)) (shape .switches)) × (length (now (switches .exit)) ≡ mostSwitches) ⌝ }
+    ensures { λ r. ⌜ Open r × (positionOf r ≡ positionOf writer + shape .switches)
+        × (wholeOf (now (file .exit)) r
+        ≡ putFields (wholeOf (now (file .entry)) writer) (positionOf writer) 1
+        (setting (depth (shape .width)) (λ x. getD (now (forward .entry)) x 0)) (shape .switches))
+        × (length (now (switches .exit)) ≡ mostSwitches) ⌝ }
 {
     if shape.switches == 0 {
         return writer;
@@ -172,7 +185,11 @@ pub fn put_line(
 ) -> Writer
     requires { ⌜ Shaped shape × Ready (shape .words) (shape .width) (now reads) (now forward) (now back) (now writes) ⌝ }
     requires { ⌜ Open writer × (positionOf writer + shape .stride ≤ 8 * length (now file)) × (length (now switches) ≡ mostSwitches) ⌝ }
-    ensures { λ r. ⌜ Open r × (positionOf r ≡ positionOf writer + shape .stride) × (wholeOf (now (file .exit)) r ≡ putLine (shape .words) (shape .width) (wholeOf (now (file .entry)) writer) (positionOf writer) (now (reads .entry)) (now (forward .entry)) (now (writes .entry))) × (length (now (switches .exit)) ≡ mostSwitches) ⌝ }
+    ensures { λ r. ⌜ Open r × (positionOf r ≡ positionOf writer + shape .stride)
+        × (wholeOf (now (file .exit)) r
+        ≡ putLine (shape .words) (shape .width) (wholeOf (now (file .entry)) writer) (positionOf writer)
+        (now (reads .entry)) (now (forward .entry)) (now (writes .entry)))
+        × (length (now (switches .exit)) ≡ mostSwitches) ⌝ }
 {
     let read = put_addresses(file, writer, shape.address, reads, shape.width);
     let set = put_switches(file, read, shape, forward, back, switches);

@@ -47,7 +47,8 @@ pub extern "C" fn rughtena_generate(
     file: &mut [u8],
     scratch: &mut [u16],
 ) -> Answer
-    ensures { λ r. ⌜ ((core : Generation) × (r ≡ generationAnswer core) × (Generates n w (now (images .entry)) (now (file .entry)) (now (scratch .entry)) core (now (file .exit)) (now (scratch .exit)))) ⌝ }
+    ensures { λ r. ⌜ ((core : Generation) × (r ≡ generationAnswer core)
+        × (Generates n w (now (images .entry)) (now (file .entry)) (now (scratch .entry)) core (now (file .exit)) (now (scratch .exit)))) ⌝ }
 {
     answers::of_generation(generate(n, w, images, file, scratch))
 }
@@ -55,7 +56,8 @@ pub extern "C" fn rughtena_generate(
 // Reading a table set.
 #[no_mangle]
 pub extern "C" fn rughtena_read(file: &[u8], images: &mut [u16], scratch: &[u16]) -> ReadAnswer
-    ensures { λ r. ⌜ ((core : Reading) × (r ≡ readingAnswer core) × (readOutcome core (now (images .exit)) ≡ readOf (now (file .entry)) (now (images .entry)) (now (scratch .entry)))) ⌝ }
+    ensures { λ r. ⌜ ((core : Reading) × (r ≡ readingAnswer core)
+        × (readOutcome core (now (images .exit)) ≡ readOf (now (file .entry)) (now (images .entry)) (now (scratch .entry)))) ⌝ }
 {
     answers::of_reading(read(file, images, scratch))
 }
@@ -63,7 +65,8 @@ pub extern "C" fn rughtena_read(file: &[u8], images: &mut [u16], scratch: &[u16]
 // Setting a network; the value is B.
 #[no_mangle]
 pub extern "C" fn rughtena_set(width: usize, images: &[u16], values: &mut [u8]) -> Answer
-    ensures { λ r. ⌜ ((core : Setting) × (r ≡ settingAnswer core) × (setOutcome core (now (values .exit)) ≡ settingOf width (now (images .entry)) (now (values .entry)))) ⌝ }
+    ensures { λ r. ⌜ ((core : Setting) × (r ≡ settingAnswer core)
+        × (setOutcome core (now (values .exit)) ≡ settingOf width (now (images .entry)) (now (values .entry)))) ⌝ }
 {
     answers::of_setting(set(width, images, values))
 }
@@ -87,7 +90,11 @@ pub extern "C" fn rughtena_step(
     words: &[u16],
     out: &mut [u16],
 ) -> Answer
-    ensures { λ r. ⌜ ((core : Stepped) × (r ≡ steppedAnswer core) × (now (clock .exit) ≡ putClock (now (clock .entry)) (clockAfter core (clockOf (now (clock .entry))))) × (stepOutcome core (now (first .exit)) (now (second .exit)) (now (out .exit)) ≡ stepOf (now (file .entry)) (clockOf (now (clock .entry))) (now (first .entry)) (now (second .entry)) (now (words .entry)) (now (out .entry)))) ⌝ }
+    ensures { λ r. ⌜ ((core : Stepped) × (r ≡ steppedAnswer core)
+        × (now (clock .exit) ≡ putClock (now (clock .entry)) (clockAfter core (clockOf (now (clock .entry)))))
+        × (stepOutcome core (now (first .exit)) (now (second .exit)) (now (out .exit))
+        ≡ stepOf (now (file .entry)) (clockOf (now (clock .entry))) (now (first .entry)) (now (second .entry)) (now (words .entry))
+        (now (out .entry)))) ⌝ }
 {
     let given = Clock {
         cycle: clock[0],

@@ -48,11 +48,13 @@ module _ {n w : ℕ} {file : List ℕ} {t : ℕ} {reads sources writes : List �
 
   pub reads-stray : any w (λ b. leb (cycles n w) (getD reads b 0)) ≡ readStrays n w file t
   unfolding readStrays
-  reads-stray = any-ext w (λ b. leb (cycles n w) (getD reads b 0)) (λ b. leb (cycles n w) (readAddress n w file t b)) (λ b l. ap (leb (cycles n w)) (read-is b l))
+  reads-stray =
+      any-ext w (λ b. leb (cycles n w) (getD reads b 0)) (λ b. leb (cycles n w) (readAddress n w file t b)) (λ b l. ap (leb (cycles n w)) (read-is b l))
 
   pub writes-stray : any w (λ k. leb (cycles n w) (getD writes k 0)) ≡ writeStrays n w file t
   unfolding writeStrays
-  writes-stray = any-ext w (λ k. leb (cycles n w) (getD writes k 0)) (λ k. leb (cycles n w) (writeAddress n w file t k)) (λ k l. ap (leb (cycles n w)) (write-is k l))
+  writes-stray =
+      any-ext w (λ k. leb (cycles n w) (getD writes k 0)) (λ k. leb (cycles n w) (writeAddress n w file t k)) (λ k l. ap (leb (cycles n w)) (write-is k l))
 
   -- a spare line that a word uses, looked for among the lines that leave or among those that enter
   pub spare-strays : spareUsed sources w (2 ^ depth w) ≡ carryStrays n w file t

@@ -32,7 +32,8 @@ module _ (addresses marks : List ℕ) (w c : ℕ) where
 
   pub fault-outside : (b : ℕ) → b < w → c ≤ getD addresses b 0 → true ≡ faulty addresses marks w c
   unfolding faulty
-  fault-outside b l h = sym (any-some w (faultAt addresses marks w c) b l (sym (choose-yes (leb c (getD addresses b 0)) true true _ (le-leb c (getD addresses b 0) h) refl)))
+  fault-outside b l h =
+      sym (any-some w (faultAt addresses marks w c) b l (sym (choose-yes (leb c (getD addresses b 0)) true true _ (le-leb c (getD addresses b 0) h) refl)))
 
   pub fault-marked : (b : ℕ) → b < w → getD addresses b 0 < c → (getD marks (getD addresses b 0 * w + b) 0 ≡ noWord → ⊥) → true ≡ faulty addresses marks w c
   unfolding faulty
@@ -45,7 +46,8 @@ module _ (addresses marks : List ℕ) (w c : ℕ) where
   sound-more {b} S l h e = record {
     upto = omega arith;
     none = λ i m. elim (ℕ-discrete i b) [
-      | yes q ↦ rw q (sym (choose-no (leb c (getD addresses b 0)) false true _ (lt-leb c (getD addresses b 0) h) (sym (ap not (eq-eqb (getD marks (getD addresses b 0 * w + b) 0) noWord e)))))
+      | yes q ↦ rw q (sym (choose-no (leb c (getD addresses b 0)) false true _ (lt-leb c (getD addresses b 0) h)
+          (sym (ap not (eq-eqb (getD marks (getD addresses b 0 * w + b) 0) noWord e)))))
       | no q ↦ S .none i (omega arith)
     ];
   }
@@ -68,13 +70,16 @@ marked-none reads sources writes w places words = record {
 -- one bank more
 pub marked-more : {reads sources writes places₀ words₀ places words : List ℕ} {w k : ℕ} → Markable reads sources writes places₀ words₀ w → k < w
     → Marked reads sources writes w k places₀ words₀ places words
-    → Marked reads sources writes w (k + 1) places₀ words₀ (set places (wordAt reads sources w k) (placeAt writes w k)) (set words (placeAt writes w k) (wordAt reads sources w k))
+    → Marked reads sources writes w (k + 1) places₀ words₀ (set places (wordAt reads sources w k) (placeAt writes w k))
+    (set words (placeAt writes w k) (wordAt reads sources w k))
 marked-more {reads} {sources} {writes} {places₀} {words₀} {places} {words} {w} {k} A l M = record {
   long = length-set places _ _ ∙ M .long;
   long′ = length-set words _ _ ∙ M .long′;
   placed = stored-turn places (wordAt reads sources w) (placeAt writes w) k (placeAt writes w k) 0 (omega (arith, A .words-below k l, A .places-long, M .long))
       (λ j m e. omega (arith, A .apart j k (omega arith) l e)) refl (M .placed);
-  worded = stored-turn words (placeAt writes w) (wordAt reads sources w) k (wordAt reads sources w k) 0 (omega (arith, A .places-below k l, A .words-long, M .long′))
+  worded =
+      stored-turn words (placeAt writes w) (wordAt reads sources w) k (wordAt reads sources w k) 0
+      (omega (arith, A .places-below k l, A .words-long, M .long′))
       (λ j m e. omega (arith, A .apart′ j k (omega arith) l e)) refl (M .worded);
   kept = λ i f. getD-set-other places (wordAt reads sources w k) i _ 0 (λ e. f k (omega arith) (sym e)) ∙ M .kept i (λ j m. f j (omega arith));
   kept′ = λ i f. getD-set-other words (placeAt writes w k) i _ 0 (λ e. f k (omega arith) (sym e)) ∙ M .kept′ i (λ j m. f j (omega arith));

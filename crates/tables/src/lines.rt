@@ -73,8 +73,10 @@ fn sources(
     standing: &mut [u8],
 )
     requires { ⌜ ((d : ℕ) × Sized lines count d) ⌝ }
-    requires { ⌜ (lines ≤ mostWidth) × (count ≤ mostSwitches) × (at < 2 ^ 32) × (length (now setting) ≡ mostSwitches) × (length (now standing) ≡ mostWidth) ⌝ }
-    ensures { λ _. ⌜ (length (now (setting .exit)) ≡ mostSwitches) × ((d : ℕ) → Sized lines count d → Sources d (now (file .entry)) at (now (standing .exit))) ⌝ }
+    requires { ⌜ (lines ≤ mostWidth) × (count ≤ mostSwitches) × (at < 2 ^ 32)
+        × (length (now setting) ≡ mostSwitches) × (length (now standing) ≡ mostWidth) ⌝ }
+    ensures { λ _. ⌜ (length (now (setting .exit)) ≡ mostSwitches)
+        × ((d : ℕ) → Sized lines count d → Sources d (now (file .entry)) at (now (standing .exit))) ⌝ }
 {
     number(standing, lines);
     if count == 0 {
@@ -98,8 +100,10 @@ pub fn line_at(
 )
     requires { ⌜ Shaped shape ⌝ }
     requires { ⌜ t < cycles (shape .words) (shape .width) ⌝ }
-    requires { ⌜ (length (now setting) ≡ mostSwitches) × (length (now reads) ≡ mostWidth) × (length (now standing) ≡ mostWidth) × (length (now writes) ≡ mostWidth) ⌝ }
-    ensures { λ _. ⌜ (length (now (setting .exit)) ≡ mostSwitches) × Line (shape .words) (shape .width) (now (file .entry)) t (now (reads .exit)) (now (standing .exit)) (now (writes .exit)) ⌝ }
+    requires { ⌜ (length (now setting) ≡ mostSwitches) × (length (now reads) ≡ mostWidth)
+        × (length (now standing) ≡ mostWidth) × (length (now writes) ≡ mostWidth) ⌝ }
+    ensures { λ _. ⌜ (length (now (setting .exit)) ≡ mostSwitches)
+        × Line (shape .words) (shape .width) (now (file .entry)) t (now (reads .exit)) (now (standing .exit)) (now (writes .exit)) ⌝ }
 {
     let at = shape.start + t * shape.stride;
     let row = shape.width * shape.address;

@@ -13,7 +13,8 @@ use Rattle.packing.proofs.plan_line.Statement.{statement}
 use Rattle.packing.proofs.plan_line.Tie as tie
 
 abbrev Inv-loop : tie.InvT-loop
-Inv-loop images words w reads₀ forward₀ back₀ writes₀ k₀ reads forward back writes k = (k ≤ w) × Planned w (orderOf (length images) images) words k reads forward back writes
+Inv-loop images words w reads₀ forward₀ back₀ writes₀ k₀ reads forward back writes k =
+    (k ≤ w) × Planned w (orderOf (length images) images) words k reads forward back writes
 
 abbrev μ-loop : tie.MeasureT-loop
 μ-loop images words w reads₀ forward₀ back₀ writes₀ k₀ reads forward back writes k = w - k
@@ -93,8 +94,11 @@ loop-less c = omega arith
 
 loop-again : tie.Need-loop-again Inv-loop μ-loop
 loop-again c =
-    let s = start (c .before) in
-    (omega arith, rw (c .image-at .ensures .0) (planned-more (c .before .before .before .loop .inv .1) (s .pre .0 .0) (s .pre .0 .1) (c .before .before .loop-test .taken) (s .pre .0 .3)))
+    let s = start (c .before) in (
+      omega arith,
+      rw (c .image-at .ensures .0)
+          (planned-more (c .before .before .before .loop .inv .1) (s .pre .0 .0) (s .pre .0 .1) (c .before .before .loop-test .taken) (s .pre .0 .3)),
+    )
 
 returns : tie.Need-returns Inv-loop μ-loop
 returns c = let e : c .before .loop .k ≡ c .before .before .before .args .w = omega arith in rw e at (c .before .loop .inv .1)

@@ -46,7 +46,11 @@ loop-less : tie.Need-loop-less Inv-loop μ-loop
 loop-less c = omega arith
 
 loop-again : tie.Need-loop-again Inv-loop μ-loop
-loop-again c = (omega arith, putting-more (c .before .before .before .before .before .before .loop .inv .1) (c .before .before .write .ensures) (record { byte = λ i. c .slice-known2 .given i .fits }))
+loop-again c = (
+  omega arith,
+  putting-more (c .before .before .before .before .before .before .loop .inv .1) (c .before .before .write .ensures)
+      (record { byte = λ i. c .slice-known2 .given i .fits }),
+)
 
 same-length : tie.Need-same-length Inv-loop μ-loop
 same-length c = c .before .loop .inv .1 .long ∙ whole-long (c .before .before .before .before)
@@ -56,7 +60,9 @@ returns c =
     let s = c .before .before .before .before in
     let l = c .before .loop in
     let e : l .i ≡ s .args .count = omega arith in
-    let P : Putting (wholeOf (s .args .file .now) (s .args .writer)) (positionOf (s .args .writer)) (s .args .width) (s .args .values .now) (s .args .count) (l .file) (l .current) = rw e at (l .inv .1) in
+    let P : Putting (wholeOf (s .args .file .now) (s .args .writer)) (positionOf (s .args .writer)) (s .args .width) (s .args .values .now)
+    (s .args .count) (l .file) (l .current) =
+    rw e at (l .inv .1) in
     (P .opened, P .place, P .put)
 
 pub put-addresses-spec : {M : Type 1} → statement M

@@ -47,8 +47,11 @@ loop-less c = omega arith
 loop-again : tie.Need-loop-again Inv-loop μ-loop
 loop-again c =
     let s = c .before .before .before .before .before .before .before .before .before in
-    let l = c .before .before .before .before .before .before .loop in
-    (omega arith, putting-number 16 (l .inv .1) (s .pre .0 .1) (omega arith) (c .before .before .before .number-of .ensures .0) (c .before .before .write .ensures) (record { byte = λ i. c .slice-known2 .given i .fits }))
+    let l = c .before .before .before .before .before .before .loop in (
+      omega arith,
+      putting-number 16 (l .inv .1) (s .pre .0 .1) (omega arith) (c .before .before .before .number-of .ensures .0)
+          (c .before .before .write .ensures) (record { byte = λ i. c .slice-known2 .given i .fits }),
+    )
 
 sub-rest : tie.Need-sub-rest Inv-loop μ-loop
 sub-rest c = omega arith
@@ -65,7 +68,9 @@ write-requires-2 c κs =
     )
 
 same-length : tie.Need-same-length Inv-loop μ-loop
-same-length c = c .before .before .write2 .kept .0 ∙ c .before .before .before .before .before .before .loop .inv .1 .long ∙ whole-long (c .before .before .before .before .before .before .before .before .before)
+same-length c =
+    c .before .before .write2 .kept .0 ∙ c .before .before .before .before .before .before .loop .inv .1 .long
+    ∙ whole-long (c .before .before .before .before .before .before .before .before .before)
 
 returns : tie.Need-returns Inv-loop μ-loop
 returns c =
@@ -73,7 +78,9 @@ returns c =
     let l = c .before .before .before .before .before .before .loop in
     let rest : ℕ = length (s .args .values .now) - l .i in
     let e : l .i + rest ≡ length (s .args .values .now) = omega arith in
-    let P = rw e at (putting-number rest (l .inv .1) (s .pre .0 .1) (omega arith) (c .before .before .before .number-of2 .ensures .0) (c .before .before .write2 .ensures) (record { byte = λ i. c .slice-known3 .given i .fits })) in
+    let P =
+    rw e at (putting-number rest (l .inv .1) (s .pre .0 .1) (omega arith) (c .before .before .before .number-of2 .ensures .0)
+    (c .before .before .write2 .ensures) (record { byte = λ i. c .slice-known3 .given i .fits })) in
     (P .opened, omega (arith, P .place), P .put)
 
 pub put-bits-spec : {M : Type 1} → statement M

@@ -13,6 +13,19 @@ use lib.ListN.{getD}
 use Rattle.packing.proofs.put_line.Statement.{statement}
 use Rattle.packing.proofs.put_line.Tie as tie
 
+-- ---- the places
+
+abbrev start : tie.After-put-addresses → tie.Start
+start c = c .before .before .before .before .before .before .before .before
+
+abbrev read : tie.After-put-switches → tie.After-put-addresses
+read c = c .before .before .before .before .before
+
+abbrev set : tie.After-put-addresses2 → tie.After-put-switches
+set c = c .before .before .before .before .before .before
+
+-- ---- the facts
+
 placed-known : (s : tie.Start) → Placed (s .args .shape .words) (s .args .shape .width) (s .args .shape)
 placed-known s = line-placed (s .pre .0 .0 .dims) (shape-same (s .pre .0 .0))
 
@@ -24,28 +37,35 @@ put-addresses-requires c κs =
     ((P .address-few, omega (arith, P .narrow, R .reads-long), read-fits P R), (s .pre .1 .0, omega (arith, P .total, s .pre .1 .1)))
 
 -- where the read addresses end
-read-end : (c : tie.After-put-addresses) → let s = c .before .before .before .before .before .before .before .before in positionOf (c .put-addresses .result) ≡ positionOf (s .args .writer) + s .args .shape .width * s .args .shape .address
+read-end : (c : tie.After-put-addresses)
+    → let s = start c in
+    positionOf (c .put-addresses .result) ≡ positionOf (s .args .writer) + s .args .shape .width * s .args .shape .address
 read-end c = c .put-addresses .ensures .1
 
 put-switches-requires : tie.Need-put-switches-requires
 put-switches-requires c κs =
-    let s = c .before .before .before .before .before .before .before .before .before .before .before .before in (
+    let d = c .before .before .before .before in
+    let s = start d in
+    let written = d .put-addresses in (
       (s .pre .0 .0, s .pre .0 .1 .wired),
-      (c .before .before .before .before .put-addresses .ensures .0, omega (arith, placed-known s .total, s .pre .1 .1, read-end (c .before .before .before .before), c .before .before .before .before .put-addresses .kept .0), s .pre .1 .2),
+      (written .ensures .0, omega (arith, placed-known s .total, s .pre .1 .1, read-end d, written .kept .0), s .pre .1 .2),
     )
 
 -- where the switch bits end
 set-end : (c : tie.After-put-switches)
-    → let s = c .before .before .before .before .before .before .before .before .before .before .before .before .before in positionOf (c .put-switches .result) ≡ positionOf (s .args .writer) + s .args .shape .width * s .args .shape .address + s .args .shape .switches
-set-end c = omega (arith, read-end (c .before .before .before .before .before), c .put-switches .ensures .1)
+    → let s = start (read c) in
+    positionOf (c .put-switches .result)
+    ≡ positionOf (s .args .writer) + s .args .shape .width * s .args .shape .address + s .args .shape .switches
+set-end c = omega (arith, read-end (read c), c .put-switches .ensures .1)
 
 put-addresses-requires-2 : tie.Need-put-addresses-requires-2
 put-addresses-requires-2 c κs =
-    let s = c .before .before .before .before .before .before .before .before .before .before .before .before .before .before .before .before .before .before in
+    let d = c .before .before .before .before .before in
+    let s = start (read d) in
     let P = placed-known s in
     let R = s .pre .0 .1 in (
       (P .address-few, omega (arith, P .narrow, R .writes-long), write-fits P R),
-      (c .before .before .before .before .before .put-switches .ensures .0, omega (arith, P .total, s .pre .1 .1, set-end (c .before .before .before .before .before), c .before .before .before .before .before .before .before .before .before .before .put-addresses .kept .0, c .before .before .before .before .before .put-switches .kept .0)),
+      (d .put-switches .ensures .0, omega (arith, P .total, s .pre .1 .1, set-end d, read d .put-addresses .kept .0, d .put-switches .kept .0)),
     )
 
 same-length : tie.Need-same-length
@@ -56,18 +76,23 @@ same-length-2 c = search needs
 
 returns : tie.Need-returns
 returns c =
-    let s = c .before .before .before .before .before .before .before .before .before .before .before .before .before .before .before .before .before .before .before .before .before in
-    let read = c .before .before .before .before .before .before .before .before .before .before .before .before .before .put-addresses in
-    let set = c .before .before .before .before .before .before .before .before .put-switches in
-    let written = c .before .before .put-addresses2 in (
-      written .ensures .0,
-      omega (arith, placed-known s .total, set-end (c .before .before .before .before .before .before .before .before), written .ensures .1),
-      line-put _ _ (positionOf (s .args .writer)) _ _ _ _ (s .args .reads .now) (s .args .forward .now) (s .args .writes .now) (shape-same (s .pre .0 .0)) (read .ensures .2)
-          (set .ensures .2
-          ∙ ap (λ (x : ℕ). putFields (wholeOf (read .last .0) (read .result)) x 1 (setting (depth (s .args .shape .width)) (λ x. getD (s .args .forward .now) x 0)) (s .args .shape .switches)) (read-end (c .before .before .before .before .before .before .before .before .before .before .before .before .before)))
-          (written .ensures .2
-          ∙ ap (λ (x : ℕ). putFields (wholeOf (set .last .0) (set .result)) x (s .args .shape .address) (s .args .writes .now) (s .args .shape .width)) (set-end (c .before .before .before .before .before .before .before .before))),
-      set .ensures .3,
+    let d = set (c .before .before) in
+    let s = start (read d) in
+    let shape = s .args .shape in
+    let bits = setting (depth (shape .width)) (λ x. getD (s .args .forward .now) x 0) in
+    let reads = read d .put-addresses in
+    let switches = d .put-switches in
+    let writes = c .before .before .put-addresses2 in (
+      writes .ensures .0,
+      omega (arith, placed-known s .total, set-end d, writes .ensures .1),
+      line-put _ _ (positionOf (s .args .writer)) _ _ _ _ (s .args .reads .now) (s .args .forward .now) (s .args .writes .now)
+          (shape-same (s .pre .0 .0)) (reads .ensures .2)
+          (switches .ensures .2
+          ∙ ap (λ (x : ℕ). putFields (wholeOf (reads .last .0) (reads .result)) x 1 bits (shape .switches)) (read-end (read d)))
+          (writes .ensures .2
+          ∙ ap (λ (x : ℕ). putFields (wholeOf (switches .last .0) (switches .result)) x (shape .address) (s .args .writes .now) (shape .width))
+          (set-end d)),
+      switches .ensures .3,
     )
 
 pub put-line-spec : {M : Type 1} → statement M

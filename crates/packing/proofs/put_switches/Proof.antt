@@ -15,10 +15,21 @@ use borrow.Author.Needs.{needs}
 use Rattle.packing.proofs.put_switches.Statement.{statement}
 use Rattle.packing.proofs.put_switches.Tie as tie
 
+-- ---- the places
+
+abbrev entry : tie.After-set-switches-arg3 → tie.Start
+entry c = c .before .before .before .before .before .before .before .before .before
+
+abbrev start : tie.After-set-switches → tie.Start
+start c = entry (c .before)
+
+-- ---- the facts
+
 placed-known : (s : tie.Start) → Placed (s .args .shape .words) (s .args .shape .width) (s .args .shape)
 placed-known s = line-placed (s .pre .0 .0 .dims) (shape-same (s .pre .0 .0))
 
-fronts-known : (s : tie.Start) → Inverses (take (s .args .shape .lines) (s .args .forward .now)) (take (s .args .shape .lines) (s .args .back .now))
+fronts-known : (s : tie.Start)
+    → Inverses (take (s .args .shape .lines) (s .args .forward .now)) (take (s .args .shape .lines) (s .args .back .now))
 fronts-known s = rw (placed-known s .lines) (s .pre .0 .1 .inverses)
 
 returns : tie.Need-returns
@@ -27,37 +38,46 @@ returns c =
     (s .pre .1 .0, omega (arith, c .if1 .taken), none-put _ _ 1 _ (c .if1 .taken), s .pre .1 .2)
 
 slice-aggregate-set-switches : tie.Need-slice-aggregate-set-switches
-slice-aggregate-set-switches c = let s = c .before .before .before .before .before .before .before in sym (length-take-le _ (s .args .forward .now) (omega (arith, placed-known s .few, s .pre .0 .1 .forward-long)))
+slice-aggregate-set-switches c =
+    let s = c .before .before .before .before .before .before .before in
+    sym (length-take-le _ (s .args .forward .now) (omega (arith, placed-known s .few, s .pre .0 .1 .forward-long)))
 
 slice-aggregate-set-switches-2 : tie.Need-slice-aggregate-set-switches-2
-slice-aggregate-set-switches-2 c = let s = c .before .before .before .before .before .before .before .before in sym (length-take-le _ (s .args .back .now) (omega (arith, placed-known s .few, s .pre .0 .1 .back-long)))
+slice-aggregate-set-switches-2 c =
+    let s = c .before .before .before .before .before .before .before .before in
+    sym (length-take-le _ (s .args .back .now) (omega (arith, placed-known s .few, s .pre .0 .1 .back-long)))
 
 set-switches-requires : tie.Need-set-switches-requires
 set-switches-requires c κs =
-    let s = c .before .before .before .before .before .before .before .before .before in
+    let s = entry c in
     let P = placed-known s in
     let S = line-sized (s .pre .0 .0 .dims) (shape-same (s .pre .0 .0)) in
     let long = front-long P (s .pre .0 .1) in
     ((S .0, (long ∙ S .1 .0, S .1 .1)), (omega (arith, P .few, long), P .switches-few, fronts-known s, s .pre .1 .2))
 
 -- the bits lie in the front of the array
-bits-long : (c : tie.After-set-switches) → length (take (c .before .before .before .before .before .before .before .before .before .before .args .shape .switches) (c .set-switches .last .1 .1 .0)) ≡ c .before .before .before .before .before .before .before .before .before .before .args .shape .switches
-bits-long c = length-take-le _ (c .set-switches .last .1 .1 .0) (omega (arith, placed-known (c .before .before .before .before .before .before .before .before .before .before) .switches-few, c .set-switches .ensures .0))
+bits-long : (c : tie.After-set-switches)
+    → let s = start c in
+    length (take (s .args .shape .switches) (c .set-switches .last .1 .1 .0)) ≡ s .args .shape .switches
+bits-long c =
+    length-take-le _ (c .set-switches .last .1 .1 .0) (omega (arith, placed-known (start c) .switches-few, c .set-switches .ensures .0))
 
 slice-reshare-prefix-put-bits : tie.Need-slice-reshare-prefix-put-bits
-slice-reshare-prefix-put-bits c = omega (arith, placed-known (c .before .before .before .before .before .before .before .before .before .before .before .before .before) .switches-few, c .before .before .before .set-switches .ensures .0)
+slice-reshare-prefix-put-bits c =
+    let d = c .before .before .before in
+    omega (arith, placed-known (start d) .switches-few, d .set-switches .ensures .0)
 
 slice-aggregate-put-bits : tie.Need-slice-aggregate-put-bits
 slice-aggregate-put-bits c = sym (bits-long (c .before .before .before .before))
 
 put-bits-requires : tie.Need-put-bits-requires
 put-bits-requires c κs =
-    let s = c .before .before .before .before .before .before .before .before .before .before .before .before .before .before in
+    let d = c .before .before .before .before in
+    let s = start d in
     let P = placed-known s in
-    let long = bits-long (c .before .before .before .before) in
-    let known = bits-known P (s .pre .0 .1) (c .before .before .before .before .set-switches .ensures .1) in (
-      (omega (arith, P .switches-few, long), λ i l. bits-two P (s .pre .0 .1) _ known i),
-      (s .pre .1 .0, omega (arith, s .pre .1 .1, long)),
+    let known = bits-known P (s .pre .0 .1) (d .set-switches .ensures .1) in (
+      (omega (arith, P .switches-few, bits-long d), λ i l. bits-two P (s .pre .0 .1) _ known i),
+      (s .pre .1 .0, omega (arith, s .pre .1 .1, bits-long d)),
     )
 
 same-length : tie.Need-same-length
@@ -68,14 +88,15 @@ same-length-2 c = search needs
 
 returns-2 : tie.Need-returns-2
 returns-2 c =
-    let s = c .before .before .before .before .before .before .before .before .before .before .before .before .before .before .before .before .before in
+    let d = c .before .before .before .before .before .before .before in
+    let s = start d in
     let put = c .before .before .put-bits .ensures in
-    let long = bits-long (c .before .before .before .before .before .before .before) in
-    let known = bits-known (placed-known s) (s .pre .0 .1) (c .before .before .before .before .before .before .before .set-switches .ensures .1) in (
+    let whole = wholeOf (s .args .file .now) (s .args .writer) in
+    let known = bits-known (placed-known s) (s .pre .0 .1) (d .set-switches .ensures .1) in (
       put .0,
-      omega (arith, put .1, long),
-      put .2 ∙ ap₂ (λ (y : List ℕ) (k : ℕ). putFields (wholeOf (s .args .file .now) (s .args .writer)) (positionOf (s .args .writer)) 1 y k) known long,
-      c .before .before .before .before .before .before .before .set-switches .ensures .0,
+      omega (arith, put .1, bits-long d),
+      put .2 ∙ ap₂ (λ (y : List ℕ) (k : ℕ). putFields whole (positionOf (s .args .writer)) 1 y k) known (bits-long d),
+      d .set-switches .ensures .0,
     )
 
 pub put-switches-spec : {M : Type 1} → statement M

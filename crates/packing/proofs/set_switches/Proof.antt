@@ -24,7 +24,8 @@ returns : tie.Need-returns
 returns c =
     let s = c .before .before .before .before .before .before .before in
     let call = c .before .before .set-bits in
-    switches-set (s .args .forward .now) (call .last .1 .1 .0) (s .args .switches .now) (s .args .count) (s .pre .1 .3) (s .pre .1 .1) (s .pre .0) (call .ensures)
+    switches-set (s .args .forward .now) (call .last .1 .1 .0) (s .args .switches .now) (s .args .count) (s .pre .1 .3) (s .pre .1 .1) (s .pre .0)
+    (call .ensures)
 
 pub set-switches-spec : {M : Type 1} → statement M
 set-switches-spec =

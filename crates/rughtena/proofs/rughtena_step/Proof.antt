@@ -34,7 +34,9 @@ same-length-3 c = search needs
 
 returns : tie.Need-returns
 unfolding clockOf
-returns c = let call = c .before .before .before .before .before .before .before .before .before .step in (call .result, c .of-step .ensures, c .before .move-on .ensures, call .ensures)
+returns c =
+    let call = c .before .before .before .before .before .before .before .before .before .step in
+    (call .result, c .of-step .ensures, c .before .move-on .ensures, call .ensures)
 
 pub rughtena-step-spec : {M : Type 1} → statement M
 rughtena-step-spec =

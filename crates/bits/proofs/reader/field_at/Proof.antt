@@ -70,7 +70,8 @@ module _ {M : Type 1} (𝓤 : URA M) (H : Heap 𝓤) (A : Atoms 𝓤) (mem : Mem
   abbrev Take : Contract 𝓤
   Take = tripleOf 𝓤 H A take.signature (take.spec 𝓤 H A mem run)
 
-module _ {M : Type 1} (𝓤 : URA M) (H : Heap 𝓤) (A : Atoms 𝓤) (W : Given 𝓤 H A) (mem : Memory → SProp 𝓤) (run : Routine → Fun 𝓤) (κ : Lft) (q : Share) (s : RefT (List ℕ)) (n w : ℕ) (n-fits : n < 2 ^ 64) (w-fits : w < 2 ^ 64) where
+module _ {M : Type 1} (𝓤 : URA M) (H : Heap 𝓤) (A : Atoms 𝓤) (W : Given 𝓤 H A) (mem : Memory → SProp 𝓤) (run : Routine → Fun 𝓤) (κ : Lft) (q : Share)
+    (s : RefT (List ℕ)) (n w : ℕ) (n-fits : n < 2 ^ 64) (w-fits : w < 2 ^ 64) where
   -- the machine value that s has
   abbrev v : Val
   v = sliceVal (s .ptr) (length (s .now))
@@ -95,14 +96,19 @@ module _ {M : Type 1} (𝓤 : URA M) (H : Heap 𝓤) (A : Atoms 𝓤) (W : Given
   abbrev to-reader-at : ReaderAt 𝓤 H A mem run .Ghost
   to-reader-at = (((κ, tt), (q, tt), tt, (s, (n, tt)), (v ∷ [], (vint w64 n ∷ [], tt))), tt)
 
-  asked-reader-at : ent 𝓤 (onEntry 𝓤 H A reader-at.signature (κ, tt) (q, tt) (to-reader-at .0 .3) (to-reader-at .0 .4)) (ReaderAt 𝓤 H A mem run .pre to-reader-at)
-  asked-reader-at = qed W ((‵ (flft κ q) ⊛ ‵ ftrue) ∷ ‵ (owns (ShrSlice (named 0) κ u8 ∷ usize ∷ []) (to-reader-at .0 .3) (to-reader-at .0 .4)) ∷ []) ∵ join ! $ frame ! $ done !
+  asked-reader-at : ent 𝓤 (onEntry 𝓤 H A reader-at.signature (κ, tt) (q, tt) (to-reader-at .0 .3) (to-reader-at .0 .4))
+      (ReaderAt 𝓤 H A mem run .pre to-reader-at)
+  asked-reader-at =
+      qed W ((‵ (flft κ q) ⊛ ‵ ftrue) ∷ ‵ (owns (ShrSlice (named 0) κ u8 ∷ usize ∷ []) (to-reader-at .0 .3) (to-reader-at .0 .4)) ∷ []) ∵
+      join ! $ frame ! $ done !
 
-  goes-reader-at : ent 𝓤 (onEntry 𝓤 H A field-at.signature (κ, tt) (q, tt) (s, (n, (w, tt))) vals) (sep 𝓤 (ReaderAt 𝓤 H A mem run .pre to-reader-at) (sem 𝓤 H A Own))
+  goes-reader-at : ent 𝓤 (onEntry 𝓤 H A field-at.signature (κ, tt) (q, tt) (s, (n, (w, tt))) vals)
+      (sep 𝓤 (ReaderAt 𝓤 H A mem run .pre to-reader-at) (sem 𝓤 H A Own))
   goes-reader-at =
       qed W ((‵ (flft κ q) ⊛ ‵ ftrue) ∷ ‵ (owns (ShrSlice (named 0) κ u8 ∷ usize ∷ usize ∷ []) (s, (n, (w, tt))) vals) ∷ []) ∵
       move ! (1 ∷ []) $ fsplit ! $ move ! (1 ∷ []) $ drop ! $ use1 W (‵ Own ⊛ ‵ Own) (shr-slice-copy 𝓤 H A W (named 0) κ u8 .twice s (v ∷ [])) $ split ! $
-      nothing ! $ number ! n n-fits $ fjoin ! $ move ! (1 ∷ 0 ∷ []) $ fjoin ! $ move ! (2 ∷ 0 ∷ []) $ use2 W (raw (ReaderAt 𝓤 H A mem run .pre to-reader-at)) asked-reader-at $ frame ! $ done !
+      nothing ! $ number ! n n-fits $ fjoin ! $ move ! (1 ∷ 0 ∷ []) $ fjoin ! $ move ! (2 ∷ 0 ∷ []) $
+      use2 W (raw (ReaderAt 𝓤 H A mem run .pre to-reader-at)) asked-reader-at $ frame ! $ done !
 
   abbrev Made : Reader → Type 0
   Made r = (r .bytes ≡ s) × (r .at ≡ n)
@@ -111,7 +117,8 @@ module _ {M : Type 1} (𝓤 : URA M) (H : Heap 𝓤) (A : Atoms 𝓤) (W : Given
   abbrev to-take : Reader → Val → Take 𝓤 H A mem run .Ghost
   to-take r u = (((κ, tt), (q, tt), tt, (r, (w, tt)), (u ∷ [], (vint w64 w ∷ [], tt))), tt)
 
-  goes-take : w ≤ 16 → (r : Reader) (u : Val) → ent 𝓤 (⋆ 𝓤 H A (‵ (Row (κ, tt) .own r (u ∷ [])) ∷ (‵ (flft κ q) ⊛ ‵ ftrue) ∷ [])) (Take 𝓤 H A mem run .pre (to-take r u))
+  goes-take : w ≤ 16 → (r : Reader) (u : Val)
+      → ent 𝓤 (⋆ 𝓤 H A (‵ (Row (κ, tt) .own r (u ∷ [])) ∷ (‵ (flft κ q) ⊛ ‵ ftrue) ∷ [])) (Take 𝓤 H A mem run .pre (to-take r u))
   goes-take ok r u =
       qed W (‵ (Row (κ, tt) .own r (u ∷ [])) ∷ (‵ (flft κ q) ⊛ ‵ ftrue) ∷ []) ∵ says ! ok $
       nothing ! $ number ! w w-fits $ fjoin ! $ move ! (1 ∷ 0 ∷ []) $ fjoin ! $ move ! (1 ∷ 0 ∷ []) $ frame ! $ done !
@@ -121,46 +128,65 @@ module _ {M : Type 1} (𝓤 : URA M) (H : Heap 𝓤) (A : Atoms 𝓤) (W : Given
 
   -- what the two calls say together
   said : (r : Reader) (t : Taken) → Made r → t ≡ takenFrom r w → t .value ≡ field (now s) n w
-  said r t made taken = ap (λ (x : Taken). x .value) taken ∙ (ap (λ (x : RefT (List ℕ)). field (now x) (r .at) w) (made .0) ∙ ap (λ (i : ℕ). field (now s) i w) (made .1))
+  said r t made taken =
+      ap (λ (x : Taken). x .value) taken ∙ (ap (λ (x : RefT (List ℕ)). field (now x) (r .at) w) (made .0) ∙ ap (λ (i : ℕ). field (now s) i w) (made .1))
 
   exits : (x : ℕ) → x ≡ field (now s) n w → x < 2 ^ 16 → ent 𝓤 (⋆ 𝓤 H A ((‵ (flft κ q) ⊛ ‵ ftrue) ∷ ‵ Own ∷ [])) (Post (vint w16 x))
   exits x e fits =
       qed W ((‵ (flft κ q) ⊛ ‵ ftrue) ∷ ‵ Own ∷ []) ∵
-      suffices ! _ (ends-at 𝓤 H A field-at.ended stayed (field-at.clauses 𝓤 H A mem run) W y (vint w16 x) x (tt, (tt, (tt, tt))) (tt, (tt, (tt, tt)))) $ says ! e $
+      suffices ! _ (ends-at 𝓤 H A field-at.ended stayed (field-at.clauses 𝓤 H A mem run) W y (vint w16 x) x (tt, (tt, (tt, tt)))
+      (tt, (tt, (tt, tt)))) $ says ! e $
       frame ! $ nothing ! $ number ! w w-fits $ fjoin ! $ number ! n n-fits $ fjoin ! $ move ! (1 ∷ 0 ∷ []) $ fjoin ! $ frame ! $
       owned ! u16 (Is u16) (uint-makes 𝓤 H A W w16) x _ (refl, fits) $ done !
 
-  module _ (C : Calls 𝓤 H) (Λ : Loops 𝓤 H) (fm : FmC 𝓤 H (W .laws) C) (known-reader-at : Triple 𝓤 (C #bits·reader·reader-at) (ReaderAt 𝓤 H A mem run)) (known-take : Triple 𝓤 (C #bits·reader·take) (Take 𝓤 H A mem run)) where
-    walk : Is (ShrSlice (named 0) κ u8) s (v ∷ []) → w ≤ 16 → ent 𝓤 (onEntry 𝓤 H A field-at.signature (κ, tt) (q, tt) (s, (n, (w, tt))) vals) (WpFn 𝓤 H C Λ code.function (v ∷ vint w64 n ∷ vint w64 w ∷ []) Post)
+  module _ (C : Calls 𝓤 H) (Λ : Loops 𝓤 H) (fm : FmC 𝓤 H (W .laws) C) (known-reader-at : Triple 𝓤 (C #bits·reader·reader-at) (ReaderAt 𝓤 H A mem run))
+      (known-take : Triple 𝓤 (C #bits·reader·take) (Take 𝓤 H A mem run)) where
+    walk : Is (ShrSlice (named 0) κ u8) s (v ∷ []) → w ≤ 16
+        → ent 𝓤 (onEntry 𝓤 H A field-at.signature (κ, tt) (q, tt) (s, (n, (w, tt))) vals) (WpFn 𝓤 H C Λ code.function (v ∷ vint w64 n ∷ vint w64 w ∷ []) Post)
     walk p ok =
-        qed W (raw (onEntry 𝓤 H A field-at.signature (κ, tt) (q, tt) (s, (n, (w, tt))) vals) ∷ []) ∵ enter ! C Λ code.function (v ∷ vint w64 n ∷ vint w64 w ∷ []) _ $
+        qed W (raw (onEntry 𝓤 H A field-at.signature (κ, tt) (q, tt) (s, (n, (w, tt))) vals) ∷ []) ∵
+        enter ! C Λ code.function (v ∷ vint w64 n ∷ vint w64 w ∷ []) _ $
         alloc1 ! (λ l₀. alloc1 ! (λ l₁. alloc1 ! (λ l₂. alloc1 ! (λ l₃. alloc1 ! (λ l₄. alloc1 ! (λ l₅. alloc0 ! $ params1 ! $
-        pass1 ! (init ! 8 refl (shr-slice-lawful 𝓤 H A W (named 0) κ u8 .typed s (v ∷ []) p .0)) $ pass1 ! (init ! 6 refl (tt, record { fits = n-fits })) $ pass1 ! (init ! 4 refl (tt, record { fits = w-fits })) $ pass0 ! $
+        pass1 ! (init ! 8 refl (shr-slice-lawful 𝓤 H A W (named 0) κ u8 .typed s (v ∷ []) p .0)) $
+        pass1 ! (init ! 6 refl (tt, record { fits = n-fits })) $ pass1 ! (init ! 4 refl (tt, record { fits = w-fits })) $ pass0 ! $
         move ! (12 ∷ []) $ use1 W (raw (ReaderAt 𝓤 H A mem run .pre to-reader-at) ⊛ ‵ Own) goes-reader-at $ split ! $
-        calls-at ! fm (ReaderAt 𝓤 H A mem run) known-reader-at to-reader-at (and-then ! (load ! (from ! (stop !)) (look ! 10 refl)) (and-then ! (load ! (from ! (stop !)) (look ! 8 refl)) (no-more !))) (λ u.
+        calls-at ! fm (ReaderAt 𝓤 H A mem run) known-reader-at to-reader-at
+        (and-then ! (load ! (from ! (stop !)) (look ! 10 refl)) (and-then ! (load ! (from ! (stop !)) (look ! 8 refl)) (no-more !))) (λ u.
         returned ! tt reader-at.ended (κ, tt) (s, (n, tt)) (‵ (flft κ q) ⊛ ‵ ftrue) (Row (κ, tt)) Made u (λ r made.
         -- [what the reader owns; the token; what s owns; room for _5; …; room for _4; …; _3; …; _2; …; _1; …; room for _0; …]
         peeks ! (Row (κ, tt)) (Is (Row (κ, tt))) (shows 𝓤 H A (Row (κ, tt))) r (u ∷ []) (λ is.
         land ! (from ! (stop !)) (init ! 3 refl (LL.lawful (T.the-type αᵉ) (T′.the-laws αᵉ) 𝓤 H A W .typed r _ is .0)) $
         use2 W (raw (Take 𝓤 H A mem run .pre (to-take r u))) (goes-take ok r u) $
-        calls-at ! fm (Take 𝓤 H A mem run) known-take (to-take r u) (and-then ! (load ! (from ! (stop !)) (look ! 2 refl)) (and-then ! (load ! (from ! (stop !)) (look ! 6 refl)) (no-more !))) (λ u′.
-        returned ! tt take.ended (κ, tt) (r, (w, tt)) (‵ (flft κ q) ⊛ ‵ ftrue) Row-taken (λ t. t ≡ takenFrom r w) u′ (λ t taken. facts ! Row-taken (Is Row-taken) (shows 𝓤 H A Row-taken) t (u′ ∷ []) (λ is′.
+        calls-at ! fm (Take 𝓤 H A mem run) known-take (to-take r u)
+        (and-then ! (load ! (from ! (stop !)) (look ! 2 refl)) (and-then ! (load ! (from ! (stop !)) (look ! 6 refl)) (no-more !))) (λ u′.
+        returned ! tt take.ended (κ, tt) (r, (w, tt)) (‵ (flft κ q) ⊛ ‵ ftrue) Row-taken (λ t. t ≡ takenFrom r w) u′ (λ t taken.
+        facts ! Row-taken (Is Row-taken) (shows 𝓤 H A Row-taken) t (u′ ∷ []) (λ is′.
         -- [the token; what s owns; _5; …; room for _4; …; _3; …; _2; …; _1; …; room for _0; …]
-        land ! (from ! (stop !)) (init ! 4 refl (LL.lawful (S.the-type αᵉ) (S′.the-laws αᵉ) 𝓤 H A W .typed t _ is′ .0)) $ rewrite ! 4 (λ (z : Val). ‵ (fat fullShare (S′.mir erased) l₄ 0 z)) (ap only (LL.tells (S.the-type αᵉ) (S′.the-laws αᵉ) t _ is′)) refl $
-        assigns ! (of-opd ! (load ! (from ! (fld ! refl (stop !))) (look-in ! 4 (sub ! 0 refl (whole !))))) (from ! (stop !)) (init ! 12 refl (tt, record { fits = is′ .1 .1 .0 .1 })) $
-        returns ! (look ! 12 refl) $ leave ! 12 refl refl $ leave ! 10 refl refl $ leave ! 8 refl refl $ leave ! 6 refl refl $ leave ! 4 refl refl $ leave ! 2 refl refl $ free0 ! $
+        land ! (from ! (stop !)) (init ! 4 refl (LL.lawful (S.the-type αᵉ) (S′.the-laws αᵉ) 𝓤 H A W .typed t _ is′ .0)) $
+        rewrite ! 4 (λ (z : Val). ‵ (fat fullShare (S′.mir erased) l₄ 0 z)) (ap only (LL.tells (S.the-type αᵉ) (S′.the-laws αᵉ) t _ is′)) refl $
+        assigns ! (of-opd ! (load ! (from ! (fld ! refl (stop !))) (look-in ! 4 (sub ! 0 refl (whole !))))) (from ! (stop !))
+        (init ! 12 refl (tt, record { fits = is′ .1 .1 .0 .1 })) $
+        returns ! (look ! 12 refl) $ leave ! 12 refl refl $ leave ! 10 refl refl $ leave ! 8 refl refl $ leave ! 6 refl refl $ leave ! 4 refl refl $
+        leave ! 2 refl refl $ free0 ! $
         by ! (exits (t .value) (said r t made taken) (is′ .1 .1 .0 .1))))))))))))))
 
 module _ {M : Type 1} (𝓤 : URA M) (H : Heap 𝓤) (A : Atoms 𝓤) (W : Given 𝓤 H A) (mem : Memory → SProp 𝓤) (run : Routine → Fun 𝓤) where
-  field-at-walks : (C : Calls 𝓤 H) (Λ : Loops 𝓤 H) → FmC 𝓤 H (W .laws) C → Triple 𝓤 (C #bits·reader·reader-at) (ReaderAt 𝓤 H A mem run) → Triple 𝓤 (C #bits·reader·take) (Take 𝓤 H A mem run)
+  field-at-walks : (C : Calls 𝓤 H) (Λ : Loops 𝓤 H) → FmC 𝓤 H (W .laws) C → Triple 𝓤 (C #bits·reader·reader-at) (ReaderAt 𝓤 H A mem run)
+      → Triple 𝓤 (C #bits·reader·take) (Take 𝓤 H A mem run)
       → Walks 𝓤 H A field-at.ended stayed (WpFn 𝓤 H C Λ code.function) (field-at.clauses 𝓤 H A mem run)
-  field-at-walks C Λ fm known-reader-at known-take = walked 𝓤 H A field-at.ended stayed (field-at.clauses 𝓤 H A mem run) (WpFn 𝓤 H C Λ code.function) (λ κs. (slice-vals, (uint-vals w64, (uint-vals w64, tt)))) (λ κs. (shr-slice-tells (named 0) (κs .0) u8, (uint-tells w64, (uint-tells w64, tt))))
-      (λ κs qs bounds a g are. needs 𝓤 _ _ (λ ok. walk 𝓤 H A W mem run (κs .0) (qs .0) (a .0) (a .1 .0) (a .1 .1 .0) (are .1 .0 .1) (are .1 .1 .0 .1) C Λ fm known-reader-at known-take (are .0) ok))
+  field-at-walks C Λ fm known-reader-at known-take =
+      walked 𝓤 H A field-at.ended stayed (field-at.clauses 𝓤 H A mem run) (WpFn 𝓤 H C Λ code.function)
+      (λ κs. (slice-vals, (uint-vals w64, (uint-vals w64, tt)))) (λ κs. (shr-slice-tells (named 0) (κs .0) u8, (uint-tells w64, (uint-tells w64, tt))))
+      (λ κs qs bounds a g are. needs 𝓤 _ _
+      (λ ok. walk 𝓤 H A W mem run (κs .0) (qs .0) (a .0) (a .1 .0) (a .1 .1 .0) (are .1 .0 .1) (are .1 .1 .0 .1) C Λ fm known-reader-at known-take
+      (are .0) ok))
 
 field-at-meets : {M : Type 1} (𝓤 : URA M) (H : Heap 𝓤) (A : Atoms 𝓤) (W : Given 𝓤 H A) (mem : Memory → SProp 𝓤) (run : Routine → Fun 𝓤) (𝓣 : Tables 𝓤 H)
     → Triple 𝓤 (𝓣 .C #bits·reader·reader-at) (ReaderAt 𝓤 H A mem run) → Triple 𝓤 (𝓣 .C #bits·reader·take) (Take 𝓤 H A mem run)
     → Meets 𝓤 H A field-at.signature (WpFn 𝓤 H (𝓣 .C) (𝓣 .Λ) code.function) (field-at.spec 𝓤 H A mem run)
-field-at-meets 𝓤 H A W mem run 𝓣 known-reader-at known-take = walk-meets 𝓤 H A field-at.ended stayed W (bytes-goes 𝓤 H A W, (number-goes 𝓤 H A W, (number-goes 𝓤 H A W, tt))) (field-at.clauses 𝓤 H A mem run) (WpFn 𝓤 H (𝓣 .C) (𝓣 .Λ) code.function) (WpFn-mono 𝓤 H (W .laws) 𝓣 code.function)
+field-at-meets 𝓤 H A W mem run 𝓣 known-reader-at known-take =
+    walk-meets 𝓤 H A field-at.ended stayed W (bytes-goes 𝓤 H A W, (number-goes 𝓤 H A W, (number-goes 𝓤 H A W, tt))) (field-at.clauses 𝓤 H A mem run)
+    (WpFn 𝓤 H (𝓣 .C) (𝓣 .Λ) code.function) (WpFn-mono 𝓤 H (W .laws) 𝓣 code.function)
     (field-at-walks 𝓤 H A W mem run (𝓣 .C) (𝓣 .Λ) (fmOf 𝓤 H (W .laws) 𝓣) known-reader-at known-take)
 
 pub field-at-spec : {M : Type 1} → stated.statement M
@@ -169,5 +195,6 @@ field-at-spec 𝓤 H 𝓜 𝓖 𝓡 =
     entered 𝓤 H (tripleOf 𝓤 H (𝓖 .A) field-at.signature (field-at.spec 𝓤 H (𝓖 .A) (𝓜 .mem) (𝓡 .run)))
     (tables 𝓤 H 𝓜 𝓡 code.env .C) (tables 𝓤 H 𝓜 𝓡 code.env .Λ) #bits·reader·field-at code.function (code.unfolded 𝓤 H 𝓜 𝓡)
     (field-at-meets 𝓤 H (𝓖 .A) (givenOf 𝓤 H 𝓜 𝓖) (𝓜 .mem) (𝓡 .run) (tablesOf 𝓤 H 𝓜 (tables 𝓤 H 𝓜 𝓡 code.env))
-    (cited 𝓤 H (ReaderAt 𝓤 H (𝓖 .A) (𝓜 .mem) (𝓡 .run)) 𝓜 𝓡 code.env #bits·reader·reader-at reader-at-def.routine code.calls-bits·reader·reader-at (reader-at-thm.met 𝓤 H 𝓜 𝓖 𝓡))
+    (cited 𝓤 H (ReaderAt 𝓤 H (𝓖 .A) (𝓜 .mem) (𝓡 .run)) 𝓜 𝓡 code.env #bits·reader·reader-at reader-at-def.routine code.calls-bits·reader·reader-at
+    (reader-at-thm.met 𝓤 H 𝓜 𝓖 𝓡))
     (cited 𝓤 H (Take 𝓤 H (𝓖 .A) (𝓜 .mem) (𝓡 .run)) 𝓜 𝓡 code.env #bits·reader·take take-def.routine code.calls-bits·reader·take (take-thm.met 𝓤 H 𝓜 𝓖 𝓡)))

@@ -73,7 +73,8 @@ module _ {M : Type 1} (𝓤 : URA M) (H : Heap 𝓤) (A : Atoms 𝓤) (mem : Mem
   abbrev Behind : Contract 𝓤
   Behind = tripleOf 𝓤 H A behind-fn.signature (behind-fn.spec 𝓤 H A mem run)
 
-module _ {M : Type 1} (𝓤 : URA M) (H : Heap 𝓤) (A : Atoms 𝓤) (W : Given 𝓤 H A) (mem : Memory → SProp 𝓤) (run : Routine → Fun 𝓤) (κ : Lft) (q : Share) (d : Reader) (w : ℕ) (w-fits : w < 2 ^ 64) where
+module _ {M : Type 1} (𝓤 : URA M) (H : Heap 𝓤) (A : Atoms 𝓤) (W : Given 𝓤 H A) (mem : Memory → SProp 𝓤) (run : Routine → Fun 𝓤) (κ : Lft) (q : Share)
+    (d : Reader) (w : ℕ) (w-fits : w < 2 ^ 64) where
   abbrev mach : Val
   mach = T′.lowered d
 
@@ -112,15 +113,20 @@ module _ {M : Type 1} (𝓤 : URA M) (H : Heap 𝓤) (A : Atoms 𝓤) (W : Given
   to-digits = (((κ, tt), (q, tt), tt, (d .bytes, (d .at, (w, tt))), (v ∷ [], (vint w64 (d .at) ∷ [], (vint w64 w ∷ [], tt)))), tt)
 
   asked : w ≤ 16 → ent 𝓤 (onEntry 𝓤 H A digits.signature (κ, tt) (q, tt) (to-digits .0 .3) (to-digits .0 .4)) (Digits 𝓤 H A mem run .pre to-digits)
-  asked ok = qed W ((‵ (flft κ q) ⊛ ‵ ftrue) ∷ ‵ (owns (ShrSlice (named 0) κ u8 ∷ usize ∷ usize ∷ []) (to-digits .0 .3) (to-digits .0 .4)) ∷ []) ∵ says ! ok $ frame ! $ done !
+  asked ok =
+      qed W ((‵ (flft κ q) ⊛ ‵ ftrue) ∷ ‵ (owns (ShrSlice (named 0) κ u8 ∷ usize ∷ usize ∷ []) (to-digits .0 .3) (to-digits .0 .4)) ∷ []) ∵
+      says ! ok $ frame ! $ done !
 
   -- what the struct owns gives what `digits_at` asks, and is kept twice
-  apart : d .at < 2 ^ 64 → w ≤ 16 → ent 𝓤 (onEntry 𝓤 H A take.signature (κ, tt) (q, tt) (d, (w, tt)) vals) (sep 𝓤 (Digits 𝓤 H A mem run .pre to-digits) (sep 𝓤 (sem 𝓤 H A Own) (sem 𝓤 H A Own)))
+  apart : d .at < 2 ^ 64 → w ≤ 16
+      → ent 𝓤 (onEntry 𝓤 H A take.signature (κ, tt) (q, tt) (d, (w, tt)) vals)
+      (sep 𝓤 (Digits 𝓤 H A mem run .pre to-digits) (sep 𝓤 (sem 𝓤 H A Own) (sem 𝓤 H A Own)))
   apart fits ok =
       let twice = LL.copy (Kind (κ, tt)) (T′.the-copy (namedLft 1 0 tt (κ, tt))) 𝓤 H A W .twice d (mach ∷ []) in
       qed W ((‵ (flft κ q) ⊛ ‵ ftrue) ∷ ‵ (owns (Row (κ, tt) ∷ usize ∷ []) (d, (w, tt)) vals) ∷ []) ∵
       move ! (1 ∷ []) $ fsplit ! $ move ! (1 ∷ []) $ drop ! $ use1 W (‵ Own ⊛ ‵ Own) twice $ split ! $ use1 W (‵ Own ⊛ ‵ Own) twice $ move ! (1 ∷ []) $
-      use1 W (given (mach ∷ [] ≡ mach ∷ []) (‵ (all-own (Kind (κ, tt) .parts) (kind-laws (κ, tt)) (d .bytes, (d .at, tt))))) (own-open 𝓤 H A W (Kind (κ, tt)) (kind-laws (κ, tt)) (d .bytes, (d .at, tt)) mach) $ learn ! (λ _. fsplit ! $
+      use1 W (given (mach ∷ [] ≡ mach ∷ []) (‵ (all-own (Kind (κ, tt) .parts) (kind-laws (κ, tt)) (d .bytes, (d .at, tt)))))
+      (own-open 𝓤 H A W (Kind (κ, tt)) (kind-laws (κ, tt)) (d .bytes, (d .at, tt)) mach) $ learn ! (λ _. fsplit ! $
       -- [what the slice owns; what the position owns; what the struct owns, twice; the token]
       move ! (1 ∷ []) $ drop ! $ nothing ! $ number ! w w-fits $ fjoin ! $ number ! (d .at) fits $ fjoin ! $ move ! (1 ∷ 0 ∷ []) $ fjoin ! $
       move ! (2 ∷ 0 ∷ []) $ use2 W (raw (Digits 𝓤 H A mem run .pre to-digits)) (asked ok) $ frame ! $ done !)
@@ -132,50 +138,73 @@ module _ {M : Type 1} (𝓤 : URA M) (H : Heap 𝓤) (A : Atoms 𝓤) (W : Given
   goes-behind : d .at < 2 ^ 64 → ent 𝓤 (emp 𝓤) (Behind 𝓤 H A mem run .pre to-behind)
   goes-behind fits = qed W [] ∵ nothing ! $ number ! w w-fits $ fjoin ! $ number ! (d .at) fits $ fjoin ! $ nothing ! $ join ! $ frame ! $ done !
 
-  exits : (r m : ℕ) → r ≡ read → r < 2 ^ 16 → m ≡ next → m < 2 ^ 64 → ent 𝓤 (⋆ 𝓤 H A ((‵ (flft κ q) ⊛ ‵ ftrue) ∷ (‵ Own ⊛ ‵ Own) ∷ [])) (Post (S′.lowered (made r m)))
+  exits : (r m : ℕ) → r ≡ read → r < 2 ^ 16 → m ≡ next → m < 2 ^ 64
+      → ent 𝓤 (⋆ 𝓤 H A ((‵ (flft κ q) ⊛ ‵ ftrue) ∷ (‵ Own ⊛ ‵ Own) ∷ [])) (Post (S′.lowered (made r m)))
   exits r m er r-fits em m-fits =
       qed W ((‵ (flft κ q) ⊛ ‵ ftrue) ∷ (‵ Own ⊛ ‵ Own) ∷ []) ∵
-      suffices ! _ (ends-at 𝓤 H A take.ended stayed (take.clauses 𝓤 H A mem run) W y (S′.lowered (made r m)) (made r m) (tt, (tt, tt)) (tt, (tt, tt))) $ says ! (λ i. made (er i) (em i)) $
+      suffices ! _ (ends-at 𝓤 H A take.ended stayed (take.clauses 𝓤 H A mem run) W y (S′.lowered (made r m)) (made r m) (tt, (tt, tt))
+      (tt, (tt, tt))) $ says ! (λ i. made (er i) (em i)) $
       frame ! $ split ! $ nothing ! $ number ! w w-fits $ fjoin ! $ move ! (1 ∷ 0 ∷ []) $ fjoin ! $ frame ! $
       -- [what the struct owns]: the new position takes the place of the old, and the number comes in front
       number ! m m-fits $ move ! (1 ∷ 0 ∷ []) $
-      use2 W (‵ (Row (κ, tt) .own (moved m) (T′.lowered (moved m) ∷ []))) (own-put 𝓤 H A W (Kind (κ, tt)) (kind-laws (κ, tt)) 1 (d .bytes, (d .at, tt)) m mach) $
+      use2 W (‵ (Row (κ, tt) .own (moved m) (T′.lowered (moved m) ∷ [])))
+      (own-put 𝓤 H A W (Kind (κ, tt)) (kind-laws (κ, tt)) 1 (d .bytes, (d .at, tt)) m mach) $
       nothing ! $ move ! (1 ∷ 0 ∷ []) $ fjoin ! $ owned ! u16 (Is u16) (uint-makes 𝓤 H A W w16) r _ (refl, r-fits) $ fjoin ! $
       by ! (own-shut 𝓤 H A W (S.the-type (namedLft 1 0 tt (κ, tt))) (S′.the-laws (namedLft 1 0 tt (κ, tt))) (r, (moved m, tt)))
 
-  module _ (C : Calls 𝓤 H) (Λ : Loops 𝓤 H) (fm : FmC 𝓤 H (W .laws) C) (known-digits : Triple 𝓤 (C #bits·digits-at) (Digits 𝓤 H A mem run)) (known-behind : Triple 𝓤 (C #bits·reader·position-behind) (Behind 𝓤 H A mem run)) where
-    walk : Holds (hasTy (T′.mir (named 0)) mach) × WT mach → w ≤ 16 → ent 𝓤 (onEntry 𝓤 H A take.signature (κ, tt) (q, tt) (d, (w, tt)) vals) (WpFn 𝓤 H C Λ code.function (mach ∷ vint w64 w ∷ []) Post)
+  module _ (C : Calls 𝓤 H) (Λ : Loops 𝓤 H) (fm : FmC 𝓤 H (W .laws) C) (known-digits : Triple 𝓤 (C #bits·digits-at) (Digits 𝓤 H A mem run))
+      (known-behind : Triple 𝓤 (C #bits·reader·position-behind) (Behind 𝓤 H A mem run)) where
+    walk : Holds (hasTy (T′.mir (named 0)) mach) × WT mach → w ≤ 16
+        → ent 𝓤 (onEntry 𝓤 H A take.signature (κ, tt) (q, tt) (d, (w, tt)) vals) (WpFn 𝓤 H C Λ code.function (mach ∷ vint w64 w ∷ []) Post)
     walk wt ok =
         qed W (raw (onEntry 𝓤 H A take.signature (κ, tt) (q, tt) (d, (w, tt)) vals) ∷ []) ∵ enter ! C Λ code.function (mach ∷ vint w64 w ∷ []) _ $
-        alloc1 ! (λ l₀. alloc1 ! (λ l₁. alloc1 ! (λ l₂. alloc1 ! (λ l₃. alloc1 ! (λ l₄. alloc1 ! (λ l₅. alloc1 ! (λ l₆. alloc1 ! (λ l₇. alloc0 ! $ params1 ! $ pass1 ! (init ! 12 refl wt) $ pass1 ! (init ! 10 refl (tt, record { fits = w-fits })) $ pass0 ! $
+        alloc1 ! (λ l₀. alloc1 ! (λ l₁. alloc1 ! (λ l₂. alloc1 ! (λ l₃. alloc1 ! (λ l₄. alloc1 ! (λ l₅. alloc1 ! (λ l₆. alloc1 ! (λ l₇. alloc0 ! $
+        params1 ! $ pass1 ! (init ! 12 refl wt) $ pass1 ! (init ! 10 refl (tt, record { fits = w-fits })) $ pass0 ! $
         -- [room for _7; …; room for _3; …; _2; …; _1; …; room for _0; …; what the parameters own]
         assigns ! (of-opd ! (load ! (from ! (fld ! refl (stop !))) (look-in ! 12 (sub ! 0 refl (whole !))))) (from ! (stop !)) (init ! 8 refl (tt, wt .1 .0)) $
-        assigns ! (of-opd ! (load ! (from ! (fld ! refl (stop !))) (look-in ! 12 (sub ! 1 refl (whole !))))) (from ! (stop !)) (init ! 6 refl (tt, wt .1 .1 .0)) $
+        assigns ! (of-opd ! (load ! (from ! (fld ! refl (stop !))) (look-in ! 12 (sub ! 1 refl (whole !))))) (from ! (stop !))
+        (init ! 6 refl (tt, wt .1 .1 .0)) $
         move ! (16 ∷ []) $ use1 W (raw (Digits 𝓤 H A mem run .pre to-digits) ⊛ (‵ Own ⊛ ‵ Own)) (apart (wt .1 .1 .0 .fits) ok) $ split ! $
-        calls-at ! fm (Digits 𝓤 H A mem run) known-digits to-digits (and-then ! (load ! (from ! (stop !)) (look ! 10 refl)) (and-then ! (load ! (from ! (stop !)) (look ! 8 refl)) (and-then ! (load ! (from ! (stop !)) (look ! 12 refl)) (no-more !)))) (λ u.
-        returned ! tt digits.ended (κ, tt) (d .bytes, (d .at, (w, tt))) (‵ (flft κ q) ⊛ ‵ ftrue) u16 (λ r. r ≡ read) u (λ r er. facts ! u16 (Is u16) (shows 𝓤 H A u16) r (u ∷ []) (λ is.
+        calls-at ! fm (Digits 𝓤 H A mem run) known-digits to-digits
+        (and-then ! (load ! (from ! (stop !)) (look ! 10 refl))
+        (and-then ! (load ! (from ! (stop !)) (look ! 8 refl)) (and-then ! (load ! (from ! (stop !)) (look ! 12 refl)) (no-more !)))) (λ u.
+        returned ! tt digits.ended (κ, tt) (d .bytes, (d .at, (w, tt))) (‵ (flft κ q) ⊛ ‵ ftrue) u16 (λ r. r ≡ read) u (λ r er.
+        facts ! u16 (Is u16) (shows 𝓤 H A u16) r (u ∷ []) (λ is.
         -- [the token; what the struct owns, twice; _7; …; _1; …; room for _0; …]
-        land ! (from ! (stop !)) (init ! 6 refl (uint-lawful 𝓤 H A W w16 .typed r _ is .0)) $ rewrite ! 6 (λ (z : Val). ‵ (fat fullShare (tyInt w16) l₅ 0 z)) (ap only (is .0)) refl $
+        land ! (from ! (stop !)) (init ! 6 refl (uint-lawful 𝓤 H A W w16 .typed r _ is .0)) $
+        rewrite ! 6 (λ (z : Val). ‵ (fat fullShare (tyInt w16) l₅ 0 z)) (ap only (is .0)) refl $
         use0 W (raw (Behind 𝓤 H A mem run .pre to-behind)) (goes-behind (wt .1 .1 .0 .fits)) $
-        calls-at ! fm (Behind 𝓤 H A mem run) known-behind to-behind (and-then ! (load ! (from ! (stop !)) (look ! 9 refl)) (and-then ! (load ! (from ! (stop !)) (look ! 13 refl)) (no-more !))) (λ u′.
-        returned ! tt behind-fn.ended tt (d .at, (w, tt)) (‵ ftrue) usize (λ m. m ≡ next) u′ (λ m em. facts ! usize (Is usize) (shows 𝓤 H A usize) m (u′ ∷ []) (λ is′. drop ! $
+        calls-at ! fm (Behind 𝓤 H A mem run) known-behind to-behind
+        (and-then ! (load ! (from ! (stop !)) (look ! 9 refl)) (and-then ! (load ! (from ! (stop !)) (look ! 13 refl)) (no-more !))) (λ u′.
+        returned ! tt behind-fn.ended tt (d .at, (w, tt)) (‵ ftrue) usize (λ m. m ≡ next) u′ (λ m em.
+        facts ! usize (Is usize) (shows 𝓤 H A usize) m (u′ ∷ []) (λ is′. drop ! $
         -- [the token; what the struct owns, twice; _7; …; _1; …; room for _0; …]
-        land ! (from ! (stop !)) (init ! 4 refl (uint-lawful 𝓤 H A W w64 .typed m _ is′ .0)) $ rewrite ! 4 (λ (z : Val). ‵ (fat fullShare (tyInt w64) l₆ 0 z)) (ap only (is′ .0)) refl $
-        assigns ! (agg ! (and-then ! (load ! (from ! (stop !)) (look ! 10 refl)) (and-then ! (load ! (from ! (stop !)) (look ! 4 refl)) (no-more !)))) (from ! (stop !)) (init ! 2 refl (tt, (wt .1 .0, (record { fits = is′ .1 }, tt)))) $
-        assigns ! (agg ! (and-then ! (load ! (from ! (stop !)) (look ! 6 refl)) (and-then ! (load ! (from ! (stop !)) (look ! 2 refl)) (no-more !)))) (from ! (stop !)) (init ! 16 refl (tt, (record { fits = is .1 }, ((wt .1 .0, (record { fits = is′ .1 }, tt)), tt)))) $
-        returns ! (look ! 16 refl) $ leave ! 16 refl refl $ leave ! 14 refl refl $ leave ! 12 refl refl $ leave ! 10 refl refl $ leave ! 8 refl refl $ leave ! 6 refl refl $ leave ! 4 refl refl $ leave ! 2 refl refl $ free0 ! $
+        land ! (from ! (stop !)) (init ! 4 refl (uint-lawful 𝓤 H A W w64 .typed m _ is′ .0)) $
+        rewrite ! 4 (λ (z : Val). ‵ (fat fullShare (tyInt w64) l₆ 0 z)) (ap only (is′ .0)) refl $
+        assigns ! (agg ! (and-then ! (load ! (from ! (stop !)) (look ! 10 refl)) (and-then ! (load ! (from ! (stop !)) (look ! 4 refl)) (no-more !))))
+        (from ! (stop !)) (init ! 2 refl (tt, (wt .1 .0, (record { fits = is′ .1 }, tt)))) $
+        assigns ! (agg ! (and-then ! (load ! (from ! (stop !)) (look ! 6 refl)) (and-then ! (load ! (from ! (stop !)) (look ! 2 refl)) (no-more !))))
+        (from ! (stop !)) (init ! 16 refl (tt, (record { fits = is .1 }, ((wt .1 .0, (record { fits = is′ .1 }, tt)), tt)))) $
+        returns ! (look ! 16 refl) $ leave ! 16 refl refl $ leave ! 14 refl refl $ leave ! 12 refl refl $ leave ! 10 refl refl $ leave ! 8 refl refl $
+        leave ! 6 refl refl $ leave ! 4 refl refl $ leave ! 2 refl refl $ free0 ! $
         by ! (exits r m er (is .1) em (is′ .1))))))))))))))))
 
 module _ {M : Type 1} (𝓤 : URA M) (H : Heap 𝓤) (A : Atoms 𝓤) (W : Given 𝓤 H A) (mem : Memory → SProp 𝓤) (run : Routine → Fun 𝓤) where
-  take-walks : (C : Calls 𝓤 H) (Λ : Loops 𝓤 H) → FmC 𝓤 H (W .laws) C → Triple 𝓤 (C #bits·digits-at) (Digits 𝓤 H A mem run) → Triple 𝓤 (C #bits·reader·position-behind) (Behind 𝓤 H A mem run)
+  take-walks : (C : Calls 𝓤 H) (Λ : Loops 𝓤 H) → FmC 𝓤 H (W .laws) C → Triple 𝓤 (C #bits·digits-at) (Digits 𝓤 H A mem run)
+      → Triple 𝓤 (C #bits·reader·position-behind) (Behind 𝓤 H A mem run)
       → Walks 𝓤 H A take.ended stayed (WpFn 𝓤 H C Λ code.function) (take.clauses 𝓤 H A mem run)
-  take-walks C Λ fm known-digits known-behind = walked 𝓤 H A take.ended stayed (take.clauses 𝓤 H A mem run) (WpFn 𝓤 H C Λ code.function) (λ κs. (LL.vals (Kind κs) (kind-laws κs), (uint-vals w64, tt))) (λ κs. (tells κs, (uint-tells w64, tt)))
-      (λ κs qs bounds a g are. needs 𝓤 _ _ (λ ok. walk 𝓤 H A W mem run (κs .0) (qs .0) (a .0) (a .1 .0) (are .1 .0 .1) C Λ fm known-digits known-behind (typed κs 𝓤 H A W (a .0) _ (are .0)) ok))
+  take-walks C Λ fm known-digits known-behind =
+      walked 𝓤 H A take.ended stayed (take.clauses 𝓤 H A mem run) (WpFn 𝓤 H C Λ code.function)
+      (λ κs. (LL.vals (Kind κs) (kind-laws κs), (uint-vals w64, tt))) (λ κs. (tells κs, (uint-tells w64, tt)))
+      (λ κs qs bounds a g are. needs 𝓤 _ _
+      (λ ok. walk 𝓤 H A W mem run (κs .0) (qs .0) (a .0) (a .1 .0) (are .1 .0 .1) C Λ fm known-digits known-behind (typed κs 𝓤 H A W (a .0) _ (are .0)) ok))
 
 take-meets : {M : Type 1} (𝓤 : URA M) (H : Heap 𝓤) (A : Atoms 𝓤) (W : Given 𝓤 H A) (mem : Memory → SProp 𝓤) (run : Routine → Fun 𝓤) (𝓣 : Tables 𝓤 H)
     → Triple 𝓤 (𝓣 .C #bits·digits-at) (Digits 𝓤 H A mem run) → Triple 𝓤 (𝓣 .C #bits·reader·position-behind) (Behind 𝓤 H A mem run)
     → Meets 𝓤 H A take.signature (WpFn 𝓤 H (𝓣 .C) (𝓣 .Λ) code.function) (take.spec 𝓤 H A mem run)
-take-meets 𝓤 H A W mem run 𝓣 known-digits known-behind = walk-meets 𝓤 H A take.ended stayed W (reader-goes 𝓤 H A W, (number-goes 𝓤 H A W, tt)) (take.clauses 𝓤 H A mem run) (WpFn 𝓤 H (𝓣 .C) (𝓣 .Λ) code.function) (WpFn-mono 𝓤 H (W .laws) 𝓣 code.function)
+take-meets 𝓤 H A W mem run 𝓣 known-digits known-behind =
+    walk-meets 𝓤 H A take.ended stayed W (reader-goes 𝓤 H A W, (number-goes 𝓤 H A W, tt)) (take.clauses 𝓤 H A mem run)
+    (WpFn 𝓤 H (𝓣 .C) (𝓣 .Λ) code.function) (WpFn-mono 𝓤 H (W .laws) 𝓣 code.function)
     (take-walks 𝓤 H A W mem run (𝓣 .C) (𝓣 .Λ) (fmOf 𝓤 H (W .laws) 𝓣) known-digits known-behind)
 
 pub take-spec : {M : Type 1} → stated.statement M
@@ -185,4 +214,5 @@ take-spec 𝓤 H 𝓜 𝓖 𝓡 =
     (tables 𝓤 H 𝓜 𝓡 code.env .C) (tables 𝓤 H 𝓜 𝓡 code.env .Λ) #bits·reader·take code.function (code.unfolded 𝓤 H 𝓜 𝓡)
     (take-meets 𝓤 H (𝓖 .A) (givenOf 𝓤 H 𝓜 𝓖) (𝓜 .mem) (𝓡 .run) (tablesOf 𝓤 H 𝓜 (tables 𝓤 H 𝓜 𝓡 code.env))
     (cited 𝓤 H (Digits 𝓤 H (𝓖 .A) (𝓜 .mem) (𝓡 .run)) 𝓜 𝓡 code.env #bits·digits-at digits-def.routine code.calls-bits·digits-at (digits-thm.met 𝓤 H 𝓜 𝓖 𝓡))
-    (cited 𝓤 H (Behind 𝓤 H (𝓖 .A) (𝓜 .mem) (𝓡 .run)) 𝓜 𝓡 code.env #bits·reader·position-behind behind-def.routine code.calls-bits·reader·position-behind (behind-thm.met 𝓤 H 𝓜 𝓖 𝓡)))
+    (cited 𝓤 H (Behind 𝓤 H (𝓖 .A) (𝓜 .mem) (𝓡 .run)) 𝓜 𝓡 code.env #bits·reader·position-behind behind-def.routine
+    code.calls-bits·reader·position-behind (behind-thm.met 𝓤 H 𝓜 𝓖 𝓡)))

@@ -14,7 +14,9 @@ mul-put-field : tie.Need-mul-put-field
 mul-put-field c = let s = c .before .before .before .before .before in omega (arith, s .pre .2)
 
 cast-put-field : tie.Need-cast-put-field
-cast-put-field c = let s = c .before .before .before .before .before .before in omega (arith, s .pre .0 .small, pow-mono {i = s .args .writer .held} {j = 8} (omega (arith, s .pre .0 .few)))
+cast-put-field c =
+    let s = c .before .before .before .before .before .before in
+    omega (arith, s .pre .0 .small, pow-mono {i = s .args .writer .held} {j = 8} (omega (arith, s .pre .0 .few)))
 
 put-field-requires : tie.Need-put-field-requires
 put-field-requires c κs = search needs

@@ -13,7 +13,8 @@ use Rattle.bits.proofs.writer.write.Statement.{statement}
 use Rattle.bits.proofs.writer.write.Tie as tie
 
 abbrev Inv-loop : tie.InvT-loop
-Inv-loop bytes₀ width value first₀ held₀ window₀ bytes first held window = Storing (putField bytes₀ (8 * first₀) held₀ window₀) (8 * first₀ + held₀) bytes first held window
+Inv-loop bytes₀ width value first₀ held₀ window₀ bytes first held window =
+    Storing (putField bytes₀ (8 * first₀) held₀ window₀) (8 * first₀ + held₀) bytes first held window
 
 abbrev μ-loop : tie.MeasureT-loop
 μ-loop bytes₀ width value first₀ held₀ window₀ bytes first held window = held

@@ -42,7 +42,9 @@ same-length-2 : tie.Need-same-length-2
 same-length-2 c = search needs
 
 returns-2 : tie.Need-returns-2
-returns-2 c = generates-made (told (c .before .before .before .before .before .before .before)) (c .before .before .before .before .make .ensures .0) (c .before .before .before .before .make .ensures .1)
+returns-2 c =
+    generates-made (told (c .before .before .before .before .before .before .before)) (c .before .before .before .before .make .ensures .0)
+    (c .before .before .before .before .make .ensures .1)
 
 pub generate-spec : {M : Type 1} → statement M
 generate-spec =

@@ -28,7 +28,8 @@ use Rattle.generator.proofs.generating.put_set.Statement.{statement}
 use Rattle.generator.proofs.generating.put_set.Tie as tie
 
 abbrev Inv-loop : tie.InvT-loop
-Inv-loop images next heads₀ edges₀ shape file₀ owner₀ words₀ reads₀ forward₀ back₀ writes₀ switches₀ writer₀ t₀ heads edges file owner words reads forward back writes switches writer t =
+Inv-loop images next heads₀ edges₀ shape file₀ owner₀ words₀ reads₀ forward₀ back₀ writes₀ switches₀ writer₀ t₀
+    heads edges file owner words reads forward back writes switches writer t =
     (t ≤ shape .cycles)
     × ((length words ≡ mostWidth) × Blank (shape .width) reads forward back writes × (length switches ≡ mostSwitches))
     × (Open writer × (positionOf writer ≡ lineAt (shape .words) (shape .width) t))
@@ -37,7 +38,8 @@ Inv-loop images next heads₀ edges₀ shape file₀ owner₀ words₀ reads₀ 
     (lineAt (shape .words) (shape .width) t))
 
 abbrev μ-loop : tie.MeasureT-loop
-μ-loop images next heads₀ edges₀ shape file₀ owner₀ words₀ reads₀ forward₀ back₀ writes₀ switches₀ writer₀ t₀ heads edges file owner words reads forward back writes switches writer t =
+μ-loop images next heads₀ edges₀ shape file₀ owner₀ words₀ reads₀ forward₀ back₀ writes₀ switches₀ writer₀ t₀
+    heads edges file owner words reads forward back writes switches writer t =
     shape .cycles - t
 
 -- ---- the places

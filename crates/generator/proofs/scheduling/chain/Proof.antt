@@ -30,7 +30,8 @@ bank-before-requires : tie.Need-bank-before-requires Inv-loop μ-loop
 bank-before-requires c κs = let s = c .before .before .before .before in rw (c .before .loop .inv .0) (mod-lt (c .before .loop .i) (s .pre .0 .0 .wide))
 
 -- the bank of the word at hand
-banked : (c : tie.After-bank-before Inv-loop μ-loop) → c .bank-before .result ≡ (c .before .before .loop .i - 1) % c .before .before .before .before .before .args .w
+banked : (c : tie.After-bank-before Inv-loop μ-loop)
+    → c .bank-before .result ≡ (c .before .before .loop .i - 1) % c .before .before .before .before .before .args .w
 banked c =
     let l = c .before .before .loop in
     let e : l .i ≡ l .i - 1 + 1 = omega (arith, c .before .loop-test .taken) in
@@ -43,10 +44,17 @@ rem-port : tie.Need-rem-port Inv-loop μ-loop
 rem-port c = search needs
 
 -- the place of the head is one of the heads
-within : (c : tie.After-image-at Inv-loop μ-loop) → c .before .bank-before .result * mostWidth + c .image-at .result % c .before .before .before .before .before .before .args .w < headCount
+within : (c : tie.After-image-at Inv-loop μ-loop)
+    → c .before .bank-before .result * mostWidth + c .image-at .result % c .before .before .before .before .before .before .args .w < headCount
 within c =
     let s = c .before .before .before .before .before .before in
-    omega (arith, banked (c .before), mod-lt (c .before .before .before .loop .i - 1) (s .pre .0 .0 .wide), mod-lt (c .image-at .result) (s .pre .0 .0 .wide), s .pre .0 .0 .narrow)
+    omega (
+      arith,
+      banked (c .before),
+      mod-lt (c .before .before .before .loop .i - 1) (s .pre .0 .0 .wide),
+      mod-lt (c .image-at .result) (s .pre .0 .0 .wide),
+      s .pre .0 .0 .narrow,
+    )
 
 mul-place : tie.Need-mul-place Inv-loop μ-loop
 mul-place c = omega (arith, within c)
@@ -64,7 +72,9 @@ mul-next-2 : tie.Need-mul-next-2 Inv-loop μ-loop
 mul-next-2 c = let s = c .before .before .before .before .before .before in omega (arith, c .before .before .before .loop .inv .1 .upto, s .pre .0 .0 .few)
 
 slice-write-next : tie.Need-slice-write-next Inv-loop μ-loop
-slice-write-next c = let s = c .before .before .before .before .before .before in omega (arith, c .before .before .before .loop .inv .1 .upto, c .before .before .before .loop .inv .1 .long, s .pre .0 .2)
+slice-write-next c =
+    let s = c .before .before .before .before .before .before in
+    omega (arith, c .before .before .before .loop .inv .1 .upto, c .before .before .before .loop .inv .1 .long, s .pre .0 .2)
 
 cast-heads : tie.Need-cast-heads Inv-loop μ-loop
 cast-heads c = let s = c .before .before .before .before .before .before in omega (arith, c .before .before .before .loop .inv .1 .upto, s .pre .0 .0 .few)
@@ -79,8 +89,10 @@ join-requires : tie.Need-join-requires Inv-loop μ-loop
 join-requires c κs =
     let s = c .before .before .before .before .before .before .before in
     let l = c .before .before .before .before .loop in
-    let bank : c .before .before .bank-before .result < mostWidth = omega (arith, banked (c .before .before), mod-lt (l .i - 1) (s .pre .0 .0 .wide), s .pre .0 .0 .narrow) in
-    let port : c .before .image-at .result % s .args .w < mostWidth = omega (arith, mod-lt (c .before .image-at .result) (s .pre .0 .0 .wide), s .pre .0 .0 .narrow) in
+    let bank : c .before .before .bank-before .result < mostWidth =
+    omega (arith, banked (c .before .before), mod-lt (l .i - 1) (s .pre .0 .0 .wide), s .pre .0 .0 .narrow) in
+    let port : c .before .image-at .result % s .args .w < mostWidth =
+    omega (arith, mod-lt (c .before .image-at .result) (s .pre .0 .0 .wide), s .pre .0 .0 .narrow) in
     (l .inv .2 .long, omega (arith, bank, port), omega (arith, bank, port))
 
 loop-less : tie.Need-loop-less Inv-loop μ-loop
@@ -91,11 +103,15 @@ loop-again c =
     let s = c .before .before .before .before .before .before .before .before in
     let l = c .before .before .before .before .before .loop in
     let e : l .i ≡ l .i - 1 + 1 = omega (arith, c .before .before .before .before .loop-test .taken) in
-    let C = subst (λ (z : ℕ). Chaining (s .args .n) (s .args .w) (orderOf (s .args .n) (s .args .images .now)) (s .args .next .now) z (l .next) (l .heads)) e (l .inv .1) in
-    let inside : c .before .before .before .bank-before .result * mostWidth + c .before .before .image-at .result % s .args .w < length (l .heads) = omega (arith, within (c .before .before), l .inv .1 .headed .long) in (
+    let C =
+    subst (λ (z : ℕ). Chaining (s .args .n) (s .args .w) (orderOf (s .args .n) (s .args .images .now)) (s .args .next .now) z (l .next) (l .heads)) e
+    (l .inv .1) in
+    let inside : c .before .before .before .bank-before .result * mostWidth + c .before .before .image-at .result % s .args .w < length (l .heads) =
+    omega (arith, within (c .before .before), l .inv .1 .headed .long) in (
       banked (c .before .before .before),
       rw (banked (c .before .before .before), c .before .before .image-at .ensures .0) (chaining-more (s .pre .0 .0) (s .pre .0 .2) C),
-      drawn-more (s .pre .0 .0 .narrow) (mod-lt (c .before .before .image-at .result) (s .pre .0 .0 .wide)) inside (λ q. omega (arith, l .inv .1 .upto, s .pre .0 .0 .few)) (l .inv .2) (c .join .ensures),
+      drawn-more (s .pre .0 .0 .narrow) (mod-lt (c .before .before .image-at .result) (s .pre .0 .0 .wide)) inside
+          (λ q. omega (arith, l .inv .1 .upto, s .pre .0 .0 .few)) (l .inv .2) (c .join .ensures),
     )
 
 same-length : tie.Need-same-length Inv-loop μ-loop
@@ -107,7 +123,8 @@ returns c =
     let l = c .before .loop in
     let e : l .i ≡ 0 = omega arith in (
       chaining-all (s .pre .0 .0)
-          (subst (λ (z : ℕ). Chaining (s .args .n) (s .args .w) (orderOf (s .args .n) (s .args .images .now)) (s .args .next .now) z (l .next) (l .heads)) e (l .inv .1)),
+          (subst (λ (z : ℕ). Chaining (s .args .n) (s .args .w) (orderOf (s .args .n) (s .args .images .now)) (s .args .next .now) z (l .next)
+          (l .heads)) e (l .inv .1)),
       l .inv .2,
     )
 

@@ -22,8 +22,10 @@ take-word-requires c κs =
     let s = c .before .before .before .before .before .before in
     let l = c .before .before .before .before .loop in
     let t = c .before .before .before .loop-test .taken in
-    let T = l .inv .1 in
-    ((T .heads-long, T .edges-long, T .owner-long, omega (arith, s .pre .0 .few)), (takes-owned (s .pre .0) t T, takes-along (s .pre .0) t T, takes-inside (s .pre .0) t T))
+    let T = l .inv .1 in (
+      (T .heads-long, T .edges-long, T .owner-long, omega (arith, s .pre .0 .few)),
+      (takes-owned (s .pre .0) t T, takes-along (s .pre .0) t T, takes-inside (s .pre .0) t T),
+    )
 
 mul-words : tie.Need-mul-words Inv-loop μ-loop
 mul-words c = search needs

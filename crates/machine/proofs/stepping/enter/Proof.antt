@@ -35,7 +35,13 @@ mul-first-2 : tie.Need-mul-first-2 Inv-loop μ-loop
 mul-first-2 c = search needs
 
 slice-write-first : tie.Need-slice-write-first Inv-loop μ-loop
-slice-write-first c = omega (arith, c .before .before .before .before .before .before .before .pre, c .before .before .before .before .loop .inv .1, c .before .spot-of .ensures .1)
+slice-write-first c =
+    omega (
+      arith,
+      c .before .before .before .before .before .before .before .pre,
+      c .before .before .before .before .loop .inv .1,
+      c .before .spot-of .ensures .1,
+    )
 
 add-b : tie.Need-add-b Inv-loop μ-loop
 add-b c = search needs

@@ -20,6 +20,16 @@ Inv-loop shape clock second out₀ other k₀ out k =
 abbrev μ-loop : tie.MeasureT-loop
 μ-loop shape clock second out₀ other k₀ out k = shape .width - k
 
+-- ---- the places
+
+abbrev start : tie.At-loop Inv-loop μ-loop → tie.Start Inv-loop μ-loop
+start c = c .before .before .before .before .before .before
+
+abbrev loop : tie.Then2 Inv-loop μ-loop → tie.At-loop Inv-loop μ-loop
+loop c = c .before .before
+
+-- ---- the facts
+
 returns : tie.Need-returns Inv-loop μ-loop
 returns c = ifLt-yes _ _ _ _ _ (omega (arith, c .if1 .taken)) refl
 
@@ -42,7 +52,7 @@ mul-out-2 : tie.Need-mul-out-2 Inv-loop μ-loop
 mul-out-2 c = search needs
 
 slice-write-out : tie.Need-slice-write-out Inv-loop μ-loop
-slice-write-out c = omega (arith, c .before .before .before .before .before .before .before .before .before .before .pre, c .before .before .before .before .loop .inv .1)
+slice-write-out c = let a = loop (c .before .before) in omega (arith, start a .pre, a .loop .inv .1)
 
 add-k : tie.Need-add-k Inv-loop μ-loop
 add-k c = search needs
@@ -53,8 +63,9 @@ loop-less c = omega arith
 loop-again : tie.Need-loop-again Inv-loop μ-loop
 unfolding leaving
 loop-again c =
-    let s = c .before .before .before .before .before .before .before .before .before .before in
-    let l = c .before .before .before .before .loop in
+    let a = loop (c .before .before) in
+    let s = start a in
+    let l = a .loop in
     let shape = s .args .shape in (
       omega arith,
       simp length-set (l .inv .1),

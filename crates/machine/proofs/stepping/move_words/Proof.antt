@@ -1,5 +1,5 @@
 -- `machine::stepping::move_words` meets its contract: turn k moves the word that bank k takes, and the banks that take are the banks that give.
-use Prim.Native.Nat.{_-_, _≤_}
+use Prim.Native.Nat.{_-_, _<_, _≤_}
 use mathlib.Core.Path.{_≡_, refl, sym, _∙_}
 use native.Mathlib.Omega.{arith}
 use borrow.Author.Needs.{needs}
@@ -20,6 +20,22 @@ Inv-loop shape clock reads sources writes first second₀ other k₀ second k =
 abbrev μ-loop : tie.MeasureT-loop
 μ-loop shape clock reads sources writes first second₀ other k₀ second k = shape .width - k
 
+-- ---- the places
+
+abbrev start : tie.At-loop Inv-loop μ-loop → tie.Start Inv-loop μ-loop
+start c = c .before .before .before .before .before .before .before
+
+abbrev loop-read : tie.After-shared-slice-known6 Inv-loop μ-loop → tie.At-loop Inv-loop μ-loop
+loop-read c = c .before .before .before .before
+
+abbrev loop-write : tie.After-shared-slice-known7 Inv-loop μ-loop → tie.At-loop Inv-loop μ-loop
+loop-write c = loop-read (c .before .before)
+
+abbrev loop-second : tie.After-shared-slice-known8 Inv-loop μ-loop → tie.At-loop Inv-loop μ-loop
+loop-second c = loop-write (c .before .before)
+
+-- ---- the facts
+
 -- what the line was found to do
 takes : (s : tie.Start Inv-loop μ-loop)
     → Takes (s .args .shape .words) (s .args .shape .width) (s .args .reads .now) (s .args .sources .now) (s .args .writes .now)
@@ -27,6 +43,12 @@ takes s =
     line-takes
     (strays-within (s .args .shape .words) (s .args .shape .width) (s .pre .1 .1 .0) (s .args .clock .cycle) (s .pre .1 .1 .2))
     (s .pre .1 .1 .1)
+
+-- port k takes from a bank
+bank-below : (c : tie.After-shared-slice-known6 Inv-loop μ-loop)
+    → let a = loop-read c in
+    getD (start a .args .sources .now) (a .loop .k) 0 < start a .args .shape .width
+bank-below c = let a = loop-read c in takes (start a) .sources-below (a .loop .k) (c .before .before .if1 .taken)
 
 sub-other : tie.Need-sub-other Inv-loop μ-loop
 sub-other c = search needs
@@ -46,17 +68,17 @@ mul-spot-of c = omega (arith, c .shared-slice-known5 .given (c .before .before .
 
 shared-slice-read-spot-of : tie.Need-shared-slice-read-spot-of Inv-loop μ-loop
 shared-slice-read-spot-of c =
-    let s = c .before .before .before .before .before .before .before .before .before .before .before in
-    omega (arith, takes s .sources-below (c .before .before .before .before .loop .k) (c .before .before .if1 .taken), takes s .reads-long, s .pre .0 .dims .narrow)
+    let s = start (loop-read c) in omega (arith, bank-below c, takes s .reads-long, s .pre .0 .dims .narrow)
 
 cast-spot-of : tie.Need-cast-spot-of Inv-loop μ-loop
-cast-spot-of c = omega (arith, c .shared-slice-known6 .given (getD (c .before .before .before .before .before .before .before .before .before .before .before .args .sources .now) (c .before .before .before .before .loop .k) 0))
+cast-spot-of c =
+    let a = loop-read c in omega (arith, c .shared-slice-known6 .given (getD (start a .args .sources .now) (a .loop .k) 0))
 
 spot-of-requires : tie.Need-spot-of-requires Inv-loop μ-loop
 spot-of-requires c κs =
-    let s = c .before .before .before .before .before .before .before .before .before .before .before in
-    let bank = takes s .sources-below (c .before .before .before .before .loop .k) (c .before .before .if1 .taken) in
-    (s .pre .0, (omega arith, bank, takes s .reads-below (getD (s .args .sources .now) (c .before .before .before .before .loop .k) 0) bank))
+    let a = loop-read c in
+    let s = start a in
+    (s .pre .0, (omega arith, bank-below c, takes s .reads-below (getD (s .args .sources .now) (a .loop .k) 0) (bank-below c)))
 
 mul-spot-of-2 : tie.Need-mul-spot-of-2 Inv-loop μ-loop
 mul-spot-of-2 c = search needs
@@ -65,12 +87,14 @@ shared-slice-read-spot-of-2 : tie.Need-shared-slice-read-spot-of-2 Inv-loop μ-l
 shared-slice-read-spot-of-2 c = search needs
 
 cast-spot-of-2 : tie.Need-cast-spot-of-2 Inv-loop μ-loop
-cast-spot-of-2 c = omega (arith, c .shared-slice-known7 .given (c .before .before .before .before .before .before .loop .k))
+cast-spot-of-2 c = omega (arith, c .shared-slice-known7 .given (loop-write c .loop .k))
 
 spot-of-requires-2 : tie.Need-spot-of-requires-2 Inv-loop μ-loop
 spot-of-requires-2 c κs =
-    let s = c .before .before .before .before .before .before .before .before .before .before .before .before .before in
-    (s .pre .0, (s .pre .1 .0 .2, c .before .before .before .before .if1 .taken, takes s .writes-below (c .before .before .before .before .before .before .loop .k) (c .before .before .before .before .if1 .taken)))
+    let a = loop-write c in
+    let s = start a in
+    let port = c .before .before .before .before .if1 .taken in
+    (s .pre .0, (s .pre .1 .0 .2, port, takes s .writes-below (a .loop .k) port))
 
 mul-second : tie.Need-mul-second Inv-loop μ-loop
 mul-second c = search needs
@@ -82,7 +106,8 @@ mul-second-2 : tie.Need-mul-second-2 Inv-loop μ-loop
 mul-second-2 c = search needs
 
 slice-write-second : tie.Need-slice-write-second Inv-loop μ-loop
-slice-write-second c = omega (arith, c .before .spot-of2 .ensures .1, c .before .before .before .before .before .before .before .before .loop .inv .1, c .before .before .before .before .before .before .before .before .before .before .before .before .before .before .before .pre .1 .0)
+slice-write-second c =
+    let a = loop-second c in omega (arith, c .before .spot-of2 .ensures .1, a .loop .inv .1, start a .pre .1 .0)
 
 add-k : tie.Need-add-k Inv-loop μ-loop
 add-k c = search needs
@@ -92,8 +117,8 @@ loop-less c = omega arith
 
 loop-again : tie.Need-loop-again Inv-loop μ-loop
 loop-again c =
-    let s = c .before .before .before .before .before .before .before .before .before .before .before .before .before .before .before in
-    let l = c .before .before .before .before .before .before .before .before .loop in
+    let s = start (loop-second c) in
+    let l = loop-second c .loop in
     let n = s .args .shape .words in
     let w = s .args .shape .width in (
       omega arith,

@@ -38,7 +38,9 @@ mul-if2-2 : tie.Need-mul-if2-2 Inv-loop μ-loop
 mul-if2-2 c = let s = c .before .before .before .before in omega (arith, s .pre, digits-lt (c .if1 .left) (c .before .before .loop-test .taken))
 
 shared-slice-read-if2 : tie.Need-shared-slice-read-if2 Inv-loop μ-loop
-shared-slice-read-if2 c = let s = c .before .before .before .before .before in omega (arith, s .pre, digits-lt (c .before .if1 .left) (c .before .before .before .loop-test .taken))
+shared-slice-read-if2 c =
+    let s = c .before .before .before .before .before in
+    omega (arith, s .pre, digits-lt (c .before .if1 .left) (c .before .before .before .loop-test .taken))
 
 returns-2 : tie.Need-returns-2 Inv-loop μ-loop
 returns-2 c = fault-marked _ _ _ _ _ (c .before .before .before .before .loop-test .taken) (c .before .before .if1 .left) (c .if2 .taken)
@@ -50,7 +52,9 @@ loop-less : tie.Need-loop-less Inv-loop μ-loop
 loop-less c = omega arith
 
 loop-again : tie.Need-loop-again Inv-loop μ-loop
-loop-again c = sound-more _ _ _ _ (c .before .before .before .before .before .loop .inv) (c .before .before .before .before .loop-test .taken) (c .before .before .if1 .left) (c .if2 .left)
+loop-again c =
+    sound-more _ _ _ _ (c .before .before .before .before .before .loop .inv) (c .before .before .before .before .loop-test .taken)
+    (c .before .before .if1 .left) (c .if2 .left)
 
 returns-3 : tie.Need-returns-3 Inv-loop μ-loop
 returns-3 c = sound-all _ _ _ _ (c .before .loop .inv) (c .loop-test .left)

@@ -29,32 +29,71 @@ writing n w file t = any w (writeFault n w file t)
 marks-long : (s : tie.Start) → s .args .shape .cycles * s .args .shape .width ≡ s .args .shape .words
 marks-long s = rw (s .pre .0 .0 .cycles) (cycles-mul (s .pre .0 .0 .dims))
 
+-- ---- the places
+
+abbrev entry : tie.After-slice-known6 → tie.Start
+entry c = c .before .before .before .before .before .before .before
+
+abbrev start : tie.After-line-at → tie.Start
+start c = entry (c .before .before .before .before .before)
+
+abbrev line-writes : tie.After-writes → tie.After-line-at
+line-writes c = c .before .before .before .before .before .before .before
+
+abbrev line-read : tie.After-fault → tie.After-line-at
+line-read c = line-writes (c .before .before .before .before)
+
+abbrev read-carry : tie.After-spare-used → tie.Else1
+read-carry c = c .before .before
+
+abbrev line-carry : tie.After-spare-used → tie.After-line-at
+line-carry c = line-read (read-carry c .before)
+
+abbrev carry-write : tie.After-fault2 → tie.Else2
+carry-write c = c .before .before .before
+
+abbrev line-write : tie.After-fault2 → tie.After-line-at
+line-write c = line-carry (carry-write c .before)
+
+-- ---- the facts
+
+-- what each test answers
+read-tested : (c : tie.After-fault) → own reading (start (line-read c)) ≡ c .fault .result
+read-tested c =
+    let d = line-read c in
+    let s = start d in
+    sym (read-faults (s .pre .0 .0 .dims) (s .pre .1 .1) (d .line-at .ensures .1)) ∙ rw (s .pre .0 .0 .cycles) at (sym (c .fault .ensures))
+
+carry-tested : (c : tie.After-spare-used) → own carryStrays (start (line-carry c)) ≡ c .spare-used .result
+carry-tested c =
+    let d = line-carry c in
+    let s = start d in
+    sym (spare-strays (d .line-at .ensures .1)) ∙ rw (s .pre .0 .0 .lines) at (sym (c .spare-used .ensures))
+
+write-tested : (c : tie.After-fault2) → own writing (start (line-write c)) ≡ c .fault2 .result
+write-tested c =
+    let d = line-write c in
+    let s = start d in
+    sym (write-faults (s .pre .0 .0 .dims) (s .pre .1 .1) (d .line-at .ensures .1)) ∙ rw (s .pre .0 .0 .cycles) at (sym (c .fault2 .ensures))
+
 -- what each test that was passed says
-no-read : (c : tie.Else1) → own reading (c .before .before .before .before .before .before .before .before .before .before .before .before .before .before .before .before .before .before .before .before .before .before .before .before) ≡ false
-no-read c =
-    let s = c .before .before .before .before .before .before .before .before .before .before .before .before .before .before .before .before .before .before .before .before .before .before .before .before in
-    sym (read-faults (s .pre .0 .0 .dims) (s .pre .1 .1) (c .before .before .before .before .before .before .before .before .before .before .before .before .line-at .ensures .1))
-    ∙ rw (s .pre .0 .0 .cycles) at (sym (c .before .fault .ensures) ∙ c .if1 .left)
+no-read : (c : tie.Else1) → own reading (start (line-read (c .before))) ≡ false
+no-read c = read-tested (c .before) ∙ c .if1 .left
 
-no-carry : (c : tie.Else2) → own carryStrays (c .before .before .before .before .before .before .before .before .before .before .before .before .before .before .before .before .before .before .before .before .before .before .before .before .before .before .before) ≡ false
-no-carry c =
-    let s = c .before .before .before .before .before .before .before .before .before .before .before .before .before .before .before .before .before .before .before .before .before .before .before .before .before .before .before in
-    sym (spare-strays (c .before .before .before .before .before .before .before .before .before .before .before .before .before .before .before .line-at .ensures .1))
-    ∙ rw (s .pre .0 .0 .lines) at (sym (c .before .spare-used .ensures) ∙ c .if2 .left)
+no-carry : (c : tie.Else2) → own carryStrays (start (line-carry (c .before))) ≡ false
+no-carry c = carry-tested (c .before) ∙ c .if2 .left
 
-no-write : (c : tie.Else3) → own writing (c .before .before .before .before .before .before .before .before .before .before .before .before .before .before .before .before .before .before .before .before .before .before .before .before .before .before .before .before .before .before .before) ≡ false
-no-write c =
-    let s = c .before .before .before .before .before .before .before .before .before .before .before .before .before .before .before .before .before .before .before .before .before .before .before .before .before .before .before .before .before .before .before in
-    sym (write-faults (s .pre .0 .0 .dims) (s .pre .1 .1) (c .before .before .before .before .before .before .before .before .before .before .before .before .before .before .before .before .before .before .before .line-at .ensures .1))
-    ∙ rw (s .pre .0 .0 .cycles) at (sym (c .before .fault2 .ensures) ∙ c .if3 .left)
+no-write : (c : tie.Else3) → own writing (start (line-write (c .before))) ≡ false
+no-write c = write-tested (c .before) ∙ c .if3 .left
 
 line-at-requires : tie.Need-line-at-requires
 line-at-requires c κs = search needs
 
 fault-requires : tie.Need-fault-requires
 fault-requires c κs =
-    let s = c .before .before .before .before .before .before .before .before .before .before .before .before .before .before .before .before .before .before .before .before .before .before in
-    let L = c .before .before .before .before .before .before .before .before .before .before .line-at .ensures .1 in
+    let d = line-writes (c .before .before .before) in
+    let s = start d in
+    let L = d .line-at .ensures .1 in
     let D = s .pre .0 .0 .dims in
     (omega (arith, L .reading .long, D .narrow), D .narrow, omega (arith, marks-long s, s .pre .1 .1 .long, D .few))
 
@@ -74,17 +113,14 @@ same-length-5 : tie.Need-same-length-5
 same-length-5 c = search needs
 
 returns : tie.Need-returns
-returns c =
-    let s = c .before .before .before .before .before .before .before .before .before .before .before .before .before .before .before .before .before .before .before .before .before .before .before .before in
-    let bad = sym (read-faults (s .pre .0 .0 .dims) (s .pre .1 .1) (c .before .before .before .before .before .before .before .before .before .before .before .before .line-at .ensures .1))
-    ∙ rw (s .pre .0 .0 .cycles) at (sym (c .before .fault .ensures) ∙ c .if1 .taken) in
-    λ k refused next. scan-read _ _ _ refused next k _ bad
+returns c = λ k refused next. scan-read _ _ _ refused next k _ (read-tested (c .before) ∙ c .if1 .taken)
 
 spare-used-requires : tie.Need-spare-used-requires
 spare-used-requires c κs =
-    let s = c .before .before .before .before .before .before .before .before .before .before .before .before .before .before .before .before .before .before .before .before .before .before .before .before .before in
+    let d = line-read (c .before .before) in
+    let s = start d in
     let v = s .pre .0 .0 .lines in
-    (rw v (depth-reaches (s .args .shape .width)), omega (arith, c .before .before .before .before .before .before .before .before .before .before .before .before .before .line-at .ensures .1 .carrying .long, v, lines-few (s .pre .0 .0 .dims)))
+    (rw v (depth-reaches (s .args .shape .width)), omega (arith, d .line-at .ensures .1 .carrying .long, v, lines-few (s .pre .0 .0 .dims)))
 
 same-length-6 : tie.Need-same-length-6
 same-length-6 c = search needs
@@ -103,15 +139,14 @@ same-length-10 c = search needs
 
 returns-2 : tie.Need-returns-2
 returns-2 c =
-    let s = c .before .before .before .before .before .before .before .before .before .before .before .before .before .before .before .before .before .before .before .before .before .before .before .before .before .before .before in
-    let bad = sym (spare-strays (c .before .before .before .before .before .before .before .before .before .before .before .before .before .before .before .line-at .ensures .1))
-    ∙ rw (s .pre .0 .0 .lines) at (sym (c .before .spare-used .ensures) ∙ c .if2 .taken) in
-    λ k refused next. scan-carry _ _ _ refused next k _ (no-read (c .before .before .before)) bad
+    let read = no-read (read-carry (c .before)) in
+    λ k refused next. scan-carry _ _ _ refused next k _ read (carry-tested (c .before) ∙ c .if2 .taken)
 
 fault-requires-2 : tie.Need-fault-requires-2
 fault-requires-2 c κs =
-    let s = c .before .before .before .before .before .before .before .before .before .before .before .before .before .before .before .before .before .before .before .before .before .before .before .before .before .before .before .before .before in
-    let L = c .before .before .before .before .before .before .before .before .before .before .before .before .before .before .before .before .before .line-at .ensures .1 in
+    let d = line-carry (c .before .before .before) in
+    let s = start d in
+    let L = d .line-at .ensures .1 in
     let D = s .pre .0 .0 .dims in
     (omega (arith, L .writing .long, D .narrow), D .narrow, omega (arith, marks-long s, s .pre .1 .1 .long′, D .few))
 
@@ -135,15 +170,18 @@ same-length-16 c = search needs
 
 returns-3 : tie.Need-returns-3
 returns-3 c =
-    let s = c .before .before .before .before .before .before .before .before .before .before .before .before .before .before .before .before .before .before .before .before .before .before .before .before .before .before .before .before .before .before .before in
-    let bad = sym (write-faults (s .pre .0 .0 .dims) (s .pre .1 .1) (c .before .before .before .before .before .before .before .before .before .before .before .before .before .before .before .before .before .before .before .line-at .ensures .1))
-    ∙ rw (s .pre .0 .0 .cycles) at (sym (c .before .fault2 .ensures) ∙ c .if3 .taken) in
-    λ k refused next. scan-write _ _ _ refused next k _ (no-read (c .before .before .before .before .before .before .before)) (no-carry (c .before .before .before .before)) bad
+    let carried = carry-write (c .before) in
+    let read = no-read (read-carry (carried .before)) in
+    λ k refused next. scan-write _ _ _ refused next k _ read (no-carry carried) (write-tested (c .before) ∙ c .if3 .taken)
 
 mark-requires : tie.Need-mark-requires
 mark-requires c κs =
-    let s = c .before .before .before .before .before .before .before .before .before .before .before .before .before .before .before .before .before .before .before .before .before .before .before .before .before .before .before .before .before .before .before .before .before .before .before .before in
-    markable (s .pre .0 .0 .dims) (s .pre .1 .1) (c .before .before .before .before .before .before .before .before .before .before .before .before .before .before .before .before .before .before .before .before .before .before .before .before .line-at .ensures .1) (no-read (c .before .before .before .before .before .before .before .before .before .before .before .before)) (no-carry (c .before .before .before .before .before .before .before .before .before)) (no-write (c .before .before .before .before .before))
+    let passed = c .before .before .before .before .before in
+    let carried = carry-write (passed .before) in
+    let d = line-write (passed .before) in
+    let s = start d in
+    markable (s .pre .0 .0 .dims) (s .pre .1 .1) (d .line-at .ensures .1) (no-read (read-carry (carried .before))) (no-carry carried)
+    (no-write passed)
 
 same-length-17 : tie.Need-same-length-17
 same-length-17 c = search needs
@@ -165,8 +203,13 @@ same-length-22 c = search needs
 
 returns-4 : tie.Need-returns-4
 returns-4 c =
-    let s = c .before .before .before .before .before .before .before .before .before .before .before .before .before .before .before .before .before .before .before .before .before .before .before .before .before .before .before .before .before .before .before .before .before .before .before .before .before .before .before .before .before in
-    gather-more (s .pre .0 .0 .dims) (s .pre .1 .1) (c .before .before .before .before .before .before .before .before .before .before .before .before .before .before .before .before .before .before .before .before .before .before .before .before .before .before .before .before .before .line-at .ensures .1) (no-read (c .before .before .before .before .before .before .before .before .before .before .before .before .before .before .before .before .before)) (no-carry (c .before .before .before .before .before .before .before .before .before .before .before .before .before .before)) (no-write (c .before .before .before .before .before .before .before .before .before .before)) (c .before .before .before .before .mark .ensures)
+    let marked = c .before .before .before .before in
+    let passed = marked .before .before .before .before .before .before in
+    let carried = carry-write (passed .before) in
+    let d = line-write (passed .before) in
+    let s = start d in
+    gather-more (s .pre .0 .0 .dims) (s .pre .1 .1) (d .line-at .ensures .1) (no-read (read-carry (carried .before))) (no-carry carried)
+    (no-write passed) (marked .mark .ensures)
 
 pub gather-line-spec : {M : Type 1} → statement M
 gather-line-spec =

@@ -28,10 +28,16 @@ mul-word : tie.Need-mul-word Inv-loop μ-loop
 mul-word c = let s = c .before .before .before in let k = c .before .before .loop .k in omega (arith, s .pre .banks k (omega arith), s .pre .few)
 
 shared-slice-read-word : tie.Need-shared-slice-read-word Inv-loop μ-loop
-shared-slice-read-word c = let s = c .before .before .before .before in let k = c .before .before .before .loop .k in omega (arith, s .pre .banks k (omega arith), s .pre .few, s .pre .reads-long)
+shared-slice-read-word c =
+    let s = c .before .before .before .before in
+    let k = c .before .before .before .loop .k in
+    omega (arith, s .pre .banks k (omega arith), s .pre .few, s .pre .reads-long)
 
 cast-word : tie.Need-cast-word Inv-loop μ-loop
-cast-word c = let s = c .before .before .before .before in let k = c .before .before .before .loop .k in omega (arith, c .shared-slice-known2 .given (getD (s .args .sources .now) k 0))
+cast-word c =
+    let s = c .before .before .before .before in
+    let k = c .before .before .before .loop .k in
+    omega (arith, c .shared-slice-known2 .given (getD (s .args .sources .now) k 0))
 
 mul-word-2 : tie.Need-mul-word-2 Inv-loop μ-loop
 mul-word-2 c = let s = c .before .before .before .before in let k = c .before .before .before .loop .k in omega (arith, s .pre .words-below k (omega arith))
@@ -46,31 +52,58 @@ shared-slice-read-place : tie.Need-shared-slice-read-place Inv-loop μ-loop
 shared-slice-read-place c = search needs
 
 cast-place : tie.Need-cast-place Inv-loop μ-loop
-cast-place c = let s = c .before .before .before .before .before in let k = c .before .before .before .before .loop .k in omega (arith, c .shared-slice-known3 .given k)
+cast-place c =
+    let s = c .before .before .before .before .before in
+    let k = c .before .before .before .before .loop .k in
+    omega (arith, c .shared-slice-known3 .given k)
 
 mul-place-2 : tie.Need-mul-place-2 Inv-loop μ-loop
-mul-place-2 c = let s = c .before .before .before .before .before in let k = c .before .before .before .before .loop .k in omega (arith, s .pre .places-below k (omega arith))
+mul-place-2 c =
+    let s = c .before .before .before .before .before in
+    let k = c .before .before .before .before .loop .k in
+    omega (arith, s .pre .places-below k (omega arith))
 
 add-place : tie.Need-add-place Inv-loop μ-loop
-add-place c = let s = c .before .before .before .before .before in let k = c .before .before .before .before .loop .k in omega (arith, s .pre .places-below k (omega arith))
+add-place c =
+    let s = c .before .before .before .before .before in
+    let k = c .before .before .before .before .loop .k in
+    omega (arith, s .pre .places-below k (omega arith))
 
 cast-places : tie.Need-cast-places Inv-loop μ-loop
-cast-places c = let s = c .before .before .before .before .before in let k = c .before .before .before .before .loop .k in omega (arith, s .pre .words-below k (omega arith), s .pre .places-below k (omega arith))
+cast-places c =
+    let s = c .before .before .before .before .before in
+    let k = c .before .before .before .before .loop .k in
+    omega (arith, s .pre .words-below k (omega arith), s .pre .places-below k (omega arith))
 
 mul-places : tie.Need-mul-places Inv-loop μ-loop
-mul-places c = let s = c .before .before .before .before .before in let k = c .before .before .before .before .loop .k in omega (arith, s .pre .words-below k (omega arith))
+mul-places c =
+    let s = c .before .before .before .before .before in
+    let k = c .before .before .before .before .loop .k in
+    omega (arith, s .pre .words-below k (omega arith))
 
 slice-write-places : tie.Need-slice-write-places Inv-loop μ-loop
-slice-write-places c = let s = c .before .before .before .before .before in let k = c .before .before .before .before .loop .k in omega (arith, s .pre .words-below k (omega arith), s .pre .places-long, c .before .before .before .before .loop .inv .1 .long)
+slice-write-places c =
+    let s = c .before .before .before .before .before in
+    let k = c .before .before .before .before .loop .k in
+    omega (arith, s .pre .words-below k (omega arith), s .pre .places-long, c .before .before .before .before .loop .inv .1 .long)
 
 cast-words : tie.Need-cast-words Inv-loop μ-loop
-cast-words c = let s = c .before .before .before .before .before in let k = c .before .before .before .before .loop .k in omega (arith, s .pre .words-below k (omega arith), s .pre .places-below k (omega arith))
+cast-words c =
+    let s = c .before .before .before .before .before in
+    let k = c .before .before .before .before .loop .k in
+    omega (arith, s .pre .words-below k (omega arith), s .pre .places-below k (omega arith))
 
 mul-words : tie.Need-mul-words Inv-loop μ-loop
-mul-words c = let s = c .before .before .before .before .before in let k = c .before .before .before .before .loop .k in omega (arith, s .pre .places-below k (omega arith))
+mul-words c =
+    let s = c .before .before .before .before .before in
+    let k = c .before .before .before .before .loop .k in
+    omega (arith, s .pre .places-below k (omega arith))
 
 slice-write-words : tie.Need-slice-write-words Inv-loop μ-loop
-slice-write-words c = let s = c .before .before .before .before .before in let k = c .before .before .before .before .loop .k in omega (arith, s .pre .places-below k (omega arith), s .pre .words-long, c .before .before .before .before .loop .inv .1 .long′)
+slice-write-words c =
+    let s = c .before .before .before .before .before in
+    let k = c .before .before .before .before .loop .k in
+    omega (arith, s .pre .places-below k (omega arith), s .pre .words-long, c .before .before .before .before .loop .inv .1 .long′)
 
 add-k : tie.Need-add-k Inv-loop μ-loop
 add-k c = search needs
@@ -79,7 +112,9 @@ loop-less : tie.Need-loop-less Inv-loop μ-loop
 loop-less c = omega arith
 
 loop-again : tie.Need-loop-again Inv-loop μ-loop
-loop-again c = let s = c .before .before .before .before .before in (omega arith, marked-more (s .pre) (c .before .before .before .loop-test .taken) (c .before .before .before .before .loop .inv .1))
+loop-again c =
+    let s = c .before .before .before .before .before in
+    (omega arith, marked-more (s .pre) (c .before .before .before .loop-test .taken) (c .before .before .before .before .loop .inv .1))
 
 same-length : tie.Need-same-length Inv-loop μ-loop
 same-length c = c .before .loop .inv .1 .long

@@ -29,7 +29,12 @@ mul-images-2 : tie.Need-mul-images-2 Inv-loop μ-loop
 mul-images-2 c = search needs
 
 slice-write-images : tie.Need-slice-write-images Inv-loop μ-loop
-slice-write-images c = let s = c .before .before .before in let l = c .before .before .loop in let long : length (l .images) ≡ length (s .args .images .now) = ap length (l .inv .1) ∙ length-overwrite (l .i) _ (s .args .images .now) (omega (arith, s .pre)) in omega (arith, long, s .pre)
+slice-write-images c =
+    let s = c .before .before .before in
+    let l = c .before .before .loop in
+    let long : length (l .images) ≡ length (s .args .images .now) =
+    ap length (l .inv .1) ∙ length-overwrite (l .i) _ (s .args .images .now) (omega (arith, s .pre)) in
+    omega (arith, long, s .pre)
 
 add-i : tie.Need-add-i Inv-loop μ-loop
 add-i c = search needs
@@ -38,10 +43,19 @@ loop-less : tie.Need-loop-less Inv-loop μ-loop
 loop-less c = omega arith
 
 loop-again : tie.Need-loop-again Inv-loop μ-loop
-loop-again c = let s = c .before .before .before in let l = c .before .before .loop in (omega arith, ap (λ (xs : List ℕ). set xs (l .i) (getD (s .args .places .now) (l .i) 0)) (l .inv .1) ∙ overwrite-turn (l .i) (λ j. getD (s .args .places .now) j 0) (s .args .images .now) 0 (omega (arith, s .pre)))
+loop-again c =
+    let s = c .before .before .before in
+    let l = c .before .before .loop in (
+      omega arith,
+      ap (λ (xs : List ℕ). set xs (l .i) (getD (s .args .places .now) (l .i) 0)) (l .inv .1)
+          ∙ overwrite-turn (l .i) (λ j. getD (s .args .places .now) j 0) (s .args .images .now) 0 (omega (arith, s .pre)),
+    )
 
 same-length : tie.Need-same-length Inv-loop μ-loop
-same-length c = let s = c .before .before in let l = c .before .loop in let long : length (l .images) ≡ length (s .args .images .now) = ap length (l .inv .1) ∙ length-overwrite (l .i) _ (s .args .images .now) (omega (arith, s .pre)) in long
+same-length c =
+    let s = c .before .before in
+    let l = c .before .loop in
+    ap length (l .inv .1) ∙ length-overwrite (l .i) _ (s .args .images .now) (omega (arith, s .pre))
 
 returns : tie.Need-returns Inv-loop μ-loop
 returns c = let s = c .before .before in let e : c .before .loop .i ≡ s .args .n = omega arith in rw e at (c .before .loop .inv .1)

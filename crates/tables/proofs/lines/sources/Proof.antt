@@ -1,11 +1,30 @@
 -- `lines::sources` meets its contract: the numbered lines are sent through the network all at once, if it has switches.
+use Prim.Native.Nat.{_≤_}
 use mathlib.Core.Path.{sym}
 use native.Mathlib.Omega.{arith}
 use borrow.Author.Needs.{needs}
+use lib.ListN.{length}
 use lib.Seq.{length-take-le}
 use Rattle.tables.proofs.Passes.{fronts-sized, sources-routed, sources-straight}
 use Rattle.tables.proofs.lines.sources.Statement.{statement}
 use Rattle.tables.proofs.lines.sources.Tie as tie
+
+-- ---- the places
+
+abbrev start : tie.After-number → tie.Start
+start c = c .before .before .before .before .before
+
+abbrev numbered : tie.After-switches → tie.After-number
+numbered c = c .before .before .before .before .before
+
+-- ---- the facts
+
+-- both fronts reach over the network
+standing-long : (c : tie.After-switches) → start (numbered c) .args .lines ≤ length (numbered c .number .last .0)
+standing-long c = omega (arith, numbered c .number .ensures .0, start (numbered c) .pre .1)
+
+setting-long : (c : tie.After-switches) → start (numbered c) .args .count ≤ length (c .switches .last .1 .1 .1 .0)
+setting-long c = omega (arith, c .switches .ensures .long, start (numbered c) .pre .1)
 
 number-requires : tie.Need-number-requires
 number-requires c κs = search needs
@@ -14,7 +33,9 @@ same-length : tie.Need-same-length
 same-length c = search needs
 
 returns : tie.Need-returns
-returns c = (c .before .before .before .before .before .before .before .before .pre .1 .3, λ d S. sources-straight d _ S (c .if1 .taken) (c .before .before .before .number .ensures))
+returns c =
+    let d = c .before .before .before in
+    (start d .pre .1 .3, λ depth S. sources-straight depth _ S (c .if1 .taken) (d .number .ensures))
 
 switches-requires : tie.Need-switches-requires
 switches-requires c κs = search needs
@@ -23,26 +44,23 @@ slice-reshare-prefix-route : tie.Need-slice-reshare-prefix-route
 slice-reshare-prefix-route c = search needs
 
 slice-aggregate-route : tie.Need-slice-aggregate-route
-slice-aggregate-route c =
-    sym (length-take-le _ (c .before .before .before .switches .last .1 .1 .1 .0) (omega (arith, c .before .before .before .switches .ensures .long, c .before .before .before .before .before .before .before .before .before .before .before .before .before .pre .1)))
+slice-aggregate-route c = let d = c .before .before .before in sym (length-take-le _ (d .switches .last .1 .1 .1 .0) (setting-long d))
 
 slice-relend-prefix-route : tie.Need-slice-relend-prefix-route
 slice-relend-prefix-route c = search needs
 
 slice-aggregate-route-2 : tie.Need-slice-aggregate-route-2
 slice-aggregate-route-2 c =
-    sym (length-take-le _ (c .before .before .before .before .before .before .before .before .before .number .last .0) (omega (arith, c .before .before .before .before .before .before .before .before .before .number .ensures .0, c .before .before .before .before .before .before .before .before .before .before .before .before .before .before .pre .1)))
+    let d = c .before .before .before .before in sym (length-take-le _ (numbered d .number .last .0) (standing-long d))
 
 route-requires : tie.Need-route-requires
 route-requires c κs =
-    let s = c .before .before .before .before .before .before .before .before .before .before .before .before .before .before in
-    let found = c .before .before .before .before .switches in
-    let standing = c .before .before .before .before .before .before .before .before .before .number in
-    let long = length-take-le (s .args .lines) (standing .last .0) (omega (arith, standing .ensures .0, s .pre .1)) in
-    let sized =
-    fronts-sized (s .pre .0 .0) (found .last .1 .1 .1 .0) (standing .last .0) (s .pre .0 .1) (omega (arith, standing .ensures .0, s .pre .1))
-    (omega (arith, found .ensures .long, s .pre .1)) in
-    ((s .pre .0 .0, sized), omega (arith, long, s .pre .1))
+    let d = c .before .before .before .before in
+    let s = start (numbered d) in
+    let setting = d .switches .last .1 .1 .1 .0 in
+    let standing = numbered d .number .last .0 in
+    let sized = fronts-sized (s .pre .0 .0) setting standing (s .pre .0 .1) (standing-long d) (setting-long d) in
+    ((s .pre .0 .0, sized), omega (arith, length-take-le (s .args .lines) standing (standing-long d), s .pre .1))
 
 same-length-2 : tie.Need-same-length-2
 same-length-2 c = search needs
@@ -52,12 +70,14 @@ same-length-3 c = search needs
 
 returns-2 : tie.Need-returns-2
 returns-2 c =
-    let s = c .before .before .before .before .before .before .before .before .before .before .before .before .before .before .before .before .before in
-    let found = c .before .before .before .before .before .before .before .switches in
-    let standing = c .before .before .before .before .before .before .before .before .before .before .before .before .number in (
-      found .ensures .long,
-      λ d S. sources-routed (standing .last .0) S (s .pre .1 .0) (found .ensures) (standing .ensures)
-          (c .before .before .route .ensures d (fronts-sized d (found .last .1 .1 .1 .0) (standing .last .0) S (omega (arith, standing .ensures .0, s .pre .1)) (omega (arith, found .ensures .long, s .pre .1)))),
+    let routed = c .before .before in
+    let d = routed .before .before .before .before .before in
+    let s = start (numbered d) in
+    let setting = d .switches .last .1 .1 .1 .0 in
+    let standing = numbered d .number .last .0 in (
+      d .switches .ensures .long,
+      λ depth S. sources-routed standing S (s .pre .1 .0) (d .switches .ensures) (numbered d .number .ensures)
+          (routed .route .ensures depth (fronts-sized depth setting standing S (standing-long d) (setting-long d))),
     )
 
 pub sources-spec : {M : Type 1} → statement M

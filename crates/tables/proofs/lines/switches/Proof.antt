@@ -43,8 +43,10 @@ loop-less c = omega (arith, c .before .before .before .before .before .loop-test
 loop-again : tie.Need-loop-again Inv-loop μ-loop
 loop-again c =
     let s = c .before .before .before .before .before .before .before .before .before in
-    let l = c .before .before .before .before .before .before .loop in
-    (omega (arith, c .before .before .before .before .before .loop-test .taken), filling-spread (s .args .file .now) (s .args .at) (l .inv .1) (c .before .before .spread .ensures) (c .before .before .before .before .field-at .ensures))
+    let l = c .before .before .before .before .before .before .loop in (
+      omega (arith, c .before .before .before .before .before .loop-test .taken),
+      filling-spread (s .args .file .now) (s .args .at) (l .inv .1) (c .before .before .spread .ensures) (c .before .before .before .before .field-at .ensures),
+    )
 
 sub-rest : tie.Need-sub-rest Inv-loop μ-loop
 sub-rest c = c .before .loop .inv .0
@@ -62,13 +64,17 @@ spread-requires-2 c κs =
     (omega (arith, c .before .before .loop-test .left), omega (arith, l .inv .1 .long, s .pre .0, l .inv .0), omega (arith, l .inv .0, s .pre .0))
 
 same-length : tie.Need-same-length Inv-loop μ-loop
-same-length c = let l = c .before .before .before .before .before .before .loop in c .before .before .spread2 .ensures .long ∙ l .inv .1 .long ∙ sym (c .before .before .before .before .before .before .before .before .before .pre .2)
+same-length c =
+    let l = c .before .before .before .before .before .before .loop in
+    c .before .before .spread2 .ensures .long ∙ l .inv .1 .long ∙ sym (c .before .before .before .before .before .before .before .before .before .pre .2)
 
 returns : tie.Need-returns Inv-loop μ-loop
 returns c =
     let s = c .before .before .before .before .before .before .before .before .before in
     let l = c .before .before .before .before .before .before .loop in
-    let F = filling-spread (s .args .file .now) (s .args .at) (l .inv .1) (c .before .before .spread2 .ensures) (c .before .before .before .before .field-at2 .ensures) in
+    let F =
+    filling-spread (s .args .file .now) (s .args .at) (l .inv .1) (c .before .before .spread2 .ensures)
+    (c .before .before .before .before .field-at2 .ensures) in
     record { long = F .long; each = λ i m. F .filled i (omega (arith, l .inv .0)) }
 
 pub switches-spec : {M : Type 1} → statement M

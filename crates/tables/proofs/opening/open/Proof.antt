@@ -26,7 +26,8 @@ unfolding headerZeros
 zeros-read c = c .field-at3 .ensures
 
 -- the limits are kept
-kept : (c : tie.After-enum-told2) → limitsOf (c .before .before .before .before .before .before .field-at .result) (c .before .before .before .before .before .field-at2 .result) ≡ Kept
+kept : (c : tie.After-enum-told2)
+    → limitsOf (c .before .before .before .before .before .before .field-at .result) (c .before .before .before .before .before .field-at2 .result) ≡ Kept
 kept c = sym (c .before .before .test-limits .ensures) ∙ c .enum-told2 .given .1
 
 returns : tie.Need-returns
@@ -71,7 +72,8 @@ open-whole-requires c κs = shape-own (limits-kept _ _ (kept (c .before))) (c .s
 returns-3 : tie.Need-returns-3
 returns-3 c =
     let d = c .before .before .before .before in
-    sym (opened-broken _ (words-read d) (width-read d) (zeros-read d) (d .before .before .before .if1 .left) _ (sym (c .before .before .test-limits .ensures) ∙ c .enum-told .given .1))
+    sym (opened-broken _ (words-read d) (width-read d) (zeros-read d) (d .before .before .before .if1 .left) _
+    (sym (c .before .before .test-limits .ensures) ∙ c .enum-told .given .1))
 
 returns-4 : tie.Need-returns-4
 returns-4 c =

@@ -23,7 +23,8 @@ bit-count-requires : tie.Need-bit-count-requires
 unfolding depth
 bit-count-requires c κs = omega (arith, c .log-up2 .ensures, depth-few (c .before .before .pre))
 
-few-known : (c : tie.After-bit-count) → (c .before .before .before .args .width * c .before .before .log-up .result ≤ 768) × (c .bit-count .result ≤ mostSwitches)
+few-known : (c : tie.After-bit-count)
+    → (c .before .before .before .args .width * c .before .before .log-up .result ≤ 768) × (c .bit-count .result ≤ mostSwitches)
 few-known c = parts-few (c .before .before .before .pre) (c .before .before .log-up .ensures) (c .before .log-up2 .ensures) (c .bit-count .ensures)
 
 mul-row : tie.Need-mul-row
