@@ -51,16 +51,6 @@ bits-ext {xs} {ys} bx by len same = ext-getD 0 xs ys len (λ f h. digits-ext 8 _
 
 -- ---- fields
 
--- A field of no bits is 0.
-pub field-zero : (xs : List ℕ) (at : ℕ) → field xs at 0 ≡ 0
-unfolding field
-field-zero xs at = refl
-
--- One more bit doubles a field and adds the bit.
-pub field-suc : (xs : List ℕ) (at w : ℕ) → field xs at (w + 1) ≡ field xs at w * 2 + bit xs (at + w)
-unfolding field
-field-suc xs at w = rw add-one
-
 -- A field of w bits is below 2^w.
 pub field-lt : (xs : List ℕ) (at w : ℕ) → field xs at w < 2 ^ w
 unfolding field
@@ -221,10 +211,3 @@ field-putField xs at w v fits small = field-digits (putField xs at w v) at w v d
     digits j h =
         let e : at + w - suc (at + j) ≡ w - suc j = omega arith in
         rw e at (bit-putField-inside xs at w v (at + j) fits (omega arith) (omega arith))
-
--- A field that does not overlap the one that is put stays.
-pub field-putField-outside : (xs : List ℕ) (at w v at′ w′ : ℕ) → at + w ≤ 8 * length xs → (at′ + w′ ≤ at) ⊎ (at + w ≤ at′)
-    → field (putField xs at w v) at′ w′ ≡ field xs at′ w′
-field-putField-outside xs at w v at′ w′ fits out =
-    field-cong (putField xs at w v) xs at′ w′
-    (λ j h. bit-putField-outside xs at w v (at′ + j) fits (⊎-elim (λ l. inl (omega arith)) (λ l. inr (omega arith)) out))

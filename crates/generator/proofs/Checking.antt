@@ -12,7 +12,7 @@ use Rattle.images.specs.declared.Checked.the-variants.{Permutation, Refused}
 use Rattle.images.proofs.Exact.{not-refused, check-permutes, permutes-check}
 use Rattle.tables.specs.Terms.{fileLength}
 use Rattle.tables.proofs.LimitTests.{limit-cases, limit-passes}
-use Rattle.generator.specs.Generating.{scratchNeed, Generable, lentTest, checksOf, outcome, Filled, Generates}
+use Rattle.generator.specs.Generating.{scratchNeed, Generable, lentTest, checksOf, generateOutcome, Filled, Generates}
 use Rattle.generator.specs.declared.Generation.the-variants.{Written, Refused as Unmade}
 
 module _ (n w : ℕ) (images : List ℕ) (room scratch : ℕ) where
@@ -53,7 +53,7 @@ module _ {n w : ℕ} {images file scratch : List ℕ} where
     refused = λ x e.
         let q : Refused r ≡ Refused x = sym h ∙ e in
         let z : r ≡ x = cc in
-        ap (λ (y : Refusal). outcome (Unmade y) file scratch) z;
+        ap (λ (y : Refusal). generateOutcome (Unmade y) file scratch) z;
     generated = λ e. absurd (not-refused r (sym h ∙ e));
   }
 

@@ -14,7 +14,7 @@ use Rattle.laws.specs.Permutation.{Injective, Permutes}
 use Rattle.laws.proofs.Sums.{is-ne, sum-le, sum-change}
 use Rattle.laws.proofs.Permutations.{permutes-ext}
 use Rattle.matching.specs.Graph.{Edge}
-use Rattle.matching.specs.Matching.{Taken, ports, Matches, Perfect, Completes}
+use Rattle.matching.specs.Matching.{Owned, ports, Matches, Perfect, Completes}
 use Rattle.matching.specs.declared.Completed.{Completed}
 use Rattle.matching.specs.declared.Completed.the-variants.{Matched, Stuck}
 use Rattle.matching.proofs.Hall.{regular-never-stuck}
@@ -128,7 +128,7 @@ module _ {n w : ℕ} {p : ℕ → ℕ} {reads : ℕ → ℕ → ℕ} {t : ℕ} {
         );
       }
         where
-          held : (k : ℕ) → k < w → Taken owner′ k → getD owner′ k 0 ≡ getD own k 0
+          held : (k : ℕ) → k < w → Owned owner′ k → getD owner′ k 0 ≡ getD own k 0
           held k l h = T .same k (λ _ e. h (T .freed k l e))
 
           fewer : (b : ℕ) → b < w → (k : ℕ) → k < w → is (getD owner′ k 0) b ≤ is (getD own k 0) b

@@ -39,8 +39,8 @@ unfoldable pub checksOf : ℕ → ℕ → List ℕ → ℕ → ℕ → Checked
 checksOf n w images room scratch = limitTest n w Refused (lentTest n w images room scratch)
 
 -- the answer, with the lent file and scratch afterwards
-pub data Outcome : Type 0 where
-  outcome : Generation → List ℕ → List ℕ → Outcome
+pub data GenerateOutcome : Type 0 where
+  generateOutcome : Generation → List ℕ → List ℕ → GenerateOutcome
 
 -- "which read lines a generated set has" is open: read lines that take each word once, with all ports of a line different, and their set
 -- at the front of the file; behind it all is as it was
@@ -59,7 +59,7 @@ pub record Filled (n w : ℕ) (images file scratch file′ scratch′ : List ℕ
 pub record Generates (n w : ℕ) (images file scratch : List ℕ) (answer : Generation) (file′ scratch′ : List ℕ) : Type 0 where
   -- a refused call alters nothing
   pub refused : (r : Refusal) → checksOf n w images (length file) (length scratch) ≡ Refused r
-      → outcome answer file′ scratch′ ≡ outcome (Unmade r) file scratch
+      → generateOutcome answer file′ scratch′ ≡ generateOutcome (Unmade r) file scratch
   -- every other call makes a set
   pub generated : checksOf n w images (length file) (length scratch) ≡ Permutation
       → (answer ≡ Written (fileLength n w)) × Filled n w images file scratch file′ scratch′

@@ -10,7 +10,7 @@ use lib.ListN.{getD}
 use Rattle.laws.specs.Sum.{sum, is, hits}
 use Rattle.laws.proofs.Sums.{is-ne, is-le, is-positive, sum-ext, sum-le, sum-add, sum-mul, sum-swap, sum-is, sum-positive}
 use Rattle.matching.specs.Set.{member, _∈_, Collects, Minus}
-use Rattle.matching.specs.Matching.{Taken, ports, Matches, Violator, tried}
+use Rattle.matching.specs.Matching.{Owned, ports, Matches, Violator, tried}
 use Rattle.matching.specs.inner.Search.{Closed, Explored}
 use Rattle.matching.proofs.Members.{member-le}
 
@@ -21,13 +21,13 @@ factors (suc a) zero h = absurd (omega (arith, mul-zero (suc a)))
 factors (suc a) (suc b) h = (omega arith, omega arith)
 
 module _ {E : ℕ → ℕ → Type 0} {w : ℕ} {owner : List ℕ} {bank taken left reached : ℕ} (M : Matches E w owner) (l : bank < w)
-    (none : ports w owner bank ≡ 0) (T : Collects taken w (Taken owner)) (X : Explored E w owner taken left) (S : Closed E w owner left bank)
+    (none : ports w owner bank ≡ 0) (T : Collects taken w (Owned owner)) (X : Explored E w owner taken left) (S : Closed E w owner left bank)
     (D : Minus taken left reached) where
   reached-in : (k : ℕ) → 0 < member reached k → (k ∈ taken) × (k ∈ left → ⊥)
   reached-in k p =
       (omega (arith, D .members k, member-le taken k), λ h. omega (arith, D .members k, member-le taken k))
 
-  in-reached : (k : ℕ) → k < w → Taken owner k × (k ∈ left → ⊥) → 0 < member reached k
+  in-reached : (k : ℕ) → k < w → Owned owner k × (k ∈ left → ⊥) → 0 < member reached k
   in-reached k q r = elim (ℕ-discrete (member left k) 1) [
     | yes h ↦ absurd (r .1 h)
     | no ne ↦ omega (arith, D .members k, member-le left k, T .every k q (r .0))

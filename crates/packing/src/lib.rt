@@ -22,24 +22,24 @@ use images::image_at;
 use limits::MOST_WIDTH;
 use tables::Shape;
 
-// The first `count` values, in fields of `width` bits.
+// The first `count` values, in fields of `size` bits.
 fn put_addresses(
     file: &mut [u8],
     writer: Writer,
-    width: usize,
+    size: usize,
     values: &[u16],
     count: usize,
 ) -> Writer
-    requires { ⌜ (width ≤ 16) × (count ≤ length (now values)) × ((i : ℕ) → i < count → getD (now values) i 0 < 2 ^ width) ⌝ }
-    requires { ⌜ Open writer × (positionOf writer + count * width ≤ 8 * length (now file)) ⌝ }
-    ensures { λ r. ⌜ Open r × (positionOf r ≡ positionOf writer + count * width)
+    requires { ⌜ (size ≤ 16) × (count ≤ length (now values)) × ((i : ℕ) → i < count → getD (now values) i 0 < 2 ^ size) ⌝ }
+    requires { ⌜ Open writer × (positionOf writer + count * size ≤ 8 * length (now file)) ⌝ }
+    ensures { λ r. ⌜ Open r × (positionOf r ≡ positionOf writer + count * size)
         × (wholeOf (now (file .exit)) r
-        ≡ putFields (wholeOf (now (file .entry)) writer) (positionOf writer) width (now (values .entry)) count) ⌝ }
+        ≡ putFields (wholeOf (now (file .entry)) writer) (positionOf writer) size (now (values .entry)) count) ⌝ }
 {
     let mut current = writer;
     let mut i = 0;
     while i < count {
-        current = bits::write(file, current, width, values[i]);
+        current = bits::write(file, current, size, values[i]);
         i += 1;
     }
     current

@@ -34,7 +34,7 @@ write-requires c κs =
     let s = c .before .before .before .before .before .before in
     let l = c .before .before .before .loop in
     let P = l .inv .1 in
-    let inside = field-within (l .i) (s .args .count) (s .args .width) (omega arith) in (
+    let inside = field-within (l .i) (s .args .count) (s .args .size) (omega arith) in (
       (s .pre .0 .0, s .pre .0 .2 (l .i) (omega arith)),
       (P .opened, omega (arith, P .place, P .long, s .pre .1 .1, inside, whole-long s), P .known),
     )
@@ -60,7 +60,7 @@ returns c =
     let s = c .before .before .before .before in
     let l = c .before .loop in
     let e : l .i ≡ s .args .count = omega arith in
-    let P : Putting (wholeOf (s .args .file .now) (s .args .writer)) (positionOf (s .args .writer)) (s .args .width) (s .args .values .now)
+    let P : Putting (wholeOf (s .args .file .now) (s .args .writer)) (positionOf (s .args .writer)) (s .args .size) (s .args .values .now)
     (s .args .count) (l .file) (l .current) =
     rw e at (l .inv .1) in
     (P .opened, P .place, P .put)
