@@ -92,7 +92,8 @@ module _ (n w : ℕ) (images file scratch : List ℕ) (answer : Generation) (fil
       let p : ℕ → ℕ = orderOf n images in
       inr (
         A .0,
-        rw (F .made .written) (only-front (fileLength n w) (generatedSet n w p (F .made .reads)) file (length-setOf n w p (F .made .reads)) (checks-passed n w images (length file) (length scratch) h .roomy)),
+        rw (F .made .written) (only-front (fileLength n w) (generatedSet n w p (F .made .reads)) file (length-setOf n w p (F .made .reads))
+            (checks-passed n w images (length file) (length scratch) h .roomy)),
         record { long = F .scratch-long; behind = F .scratch-kept },
       )
 
@@ -102,7 +103,8 @@ module _ (n w : ℕ) (images file scratch : List ℕ) (answer : Generation) (fil
 -- a step
 module _ (file : List ℕ) (clock : Clock) (first second words out : List ℕ) where
   -- what a step that passed all tests alters
-  accepted-lends : (n w : ℕ) → Passed file clock first second words out n w → StepLends file clock first second out (accepted n w file clock first second words out)
+  accepted-lends : (n w : ℕ) → Passed file clock first second words out n w
+      → StepLends file clock first second out (accepted n w file clock first second words out)
   unfolding StepLends accepted
   accepted-lends n w T =
       let D = T .dims in

@@ -51,7 +51,8 @@ module _ {n w : ℕ} {images file scratch : List ℕ} {answer : Generation} {fil
     pub straight-alone : readOf (take (fileLength n w) file′) out memory ≡ readAs n w (take (fileLength n w) file′) (overwrite n (λ i. i) out)
         → (i : ℕ) → i < n → orderOf n images i ≡ i
     straight-alone e i b =
-        let q : readAs n w (take (fileLength n w) file′) (overwrite n (orderOf n images) out) ≡ readAs n w (take (fileLength n w) file′) (overwrite n (λ i. i) out) = sym reads ∙ e in
+        let q : readAs n w (take (fileLength n w) file′) (overwrite n (orderOf n images) out)
+        ≡ readAs n w (take (fileLength n w) file′) (overwrite n (λ i. i) out) = sym reads ∙ e in
         let z : overwrite n (orderOf n images) out ≡ overwrite n (λ i. i) out = cc in
         sym (getD-overwrite n (orderOf n images) out i 0 b) ∙ ap (λ (xs : List ℕ). getD xs i 0) z ∙ getD-overwrite n (λ i. i) out i 0 b
 

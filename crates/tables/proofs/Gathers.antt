@@ -110,7 +110,8 @@ module _ {n w : ℕ} {file : List ℕ} {t : ℕ} {places words reads sources wri
       rw (read-is L b l) (fault-either (cycles n w) (readAddress n w file t b) _ _ λ m.
       mark-tells t (λ s. readAddress n w file s b) (readAddress n w file t b) _
       (λ s q e none.
-      let same : getD places (readAddress n w file s b * w + b) 0 ≡ getD places (readAddress n w file t b * w + b) 0 = ap (λ (z : ℕ). getD places (z * w + b) 0) e in
+      let same : getD places (readAddress n w file s b * w + b) 0 ≡ getD places (readAddress n w file t b * w + b) 0 =
+      ap (λ (z : ℕ). getD places (z * w + b) 0) e in
       omega (arith, before-target s b q l, G .placed s b q l, same))
       (λ f. G .unread (readAddress n w file t b) b m l f))
 
@@ -191,10 +192,17 @@ module _ {n w : ℕ} {file : List ℕ} {t : ℕ} {places words reads sources wri
       places-long = G .long;
       words-long = G .long′;
       banks = λ k l. bank k l .0;
-      words-below = λ k l. rw (word-is k l) (omega (arith, word-below D (readAddress n w file t (getD sources k 0)) (getD sources k 0) (now-read (getD sources k 0) (bank k l .0)) (bank k l .0), D .few));
+      words-below = λ k l. rw (word-is k l)
+          (omega (
+            arith,
+            word-below D (readAddress n w file t (getD sources k 0)) (getD sources k 0)
+                (now-read (getD sources k 0) (bank k l .0)) (bank k l .0),
+            D .few,
+          ));
       places-below = λ k l. rw (write-is L k l) (omega (arith, word-below D (writeAddress n w file t k) k (now-write k l) l, D .few));
       apart = λ j k l m e.
-          let q = word-injective w (getD reads (getD sources j 0) 0) (getD reads (getD sources k 0) 0) (getD sources j 0) (getD sources k 0) (bank j l .0) (bank k m .0) e in
+          let q = word-injective w (getD reads (getD sources j 0) 0) (getD reads (getD sources k 0) 0) (getD sources j 0) (getD sources k 0)
+          (bank j l .0) (bank k m .0) e in
           sym (bank j l .1) ∙ ap (carriedTo n w file t) (q .1) ∙ bank k m .1;
       apart′ = λ j k l m e. word-injective w (getD writes j 0) (getD writes k 0) j k l m e .1;
     }
@@ -206,14 +214,16 @@ module _ {n w : ℕ} {file : List ℕ} {t : ℕ} {places words reads sources wri
       long′ = M .long′ ∙ G .long′;
       passed = λ s l. elim (decLt s t) [ yes m ↦ G .passed s m | no m ↦ let e : s ≡ t = omega arith in rw e (no-read, no-carry, no-write) ];
       placed = λ s b l m. elim (decLt s t) [
-        | yes q ↦ M .kept (readAddress n w file s b * w + b) (λ k lk e. fresh-read s b q m (sym (word-apart k (readAddress n w file s b) b lk m e .0))) ∙ G .placed s b q m
+        | yes q ↦ M .kept (readAddress n w file s b * w + b)
+            (λ k lk e. fresh-read s b q m (sym (word-apart k (readAddress n w file s b) b lk m e .0))) ∙ G .placed s b q m
         | no q ↦ let e : s ≡ t = omega arith in rw e (here b m .0)
       ];
       worded = λ s b l m. elim (decLt s t) [
         | yes q ↦
             let k = before-carried s q b m in
             M .kept′ (writeAddress n w file s (carriedTo n w file s b) * w + carriedTo n w file s b)
-            (λ j lj e. fresh-write s (carriedTo n w file s b) q k (sym (place-apart j (writeAddress n w file s (carriedTo n w file s b)) (carriedTo n w file s b) lj k e .0)))
+            (λ j lj e. fresh-write s (carriedTo n w file s b) q k
+            (sym (place-apart j (writeAddress n w file s (carriedTo n w file s b)) (carriedTo n w file s b) lj k e .0)))
             ∙ G .worded s b q m
         | no q ↦ let e : s ≡ t = omega arith in rw e (here b m .1)
       ];

@@ -59,7 +59,8 @@ fn mark<'a>(
     width: usize,
 )
     requires { ⌜ Markable (now reads) (now sources) (now writes) (now places) (now words) width ⌝ }
-    ensures { λ _. ⌜ Marked (now (reads .entry)) (now (sources .entry)) (now (writes .entry)) width width (now (places .entry)) (now (words .entry)) (now (places .exit)) (now (words .exit)) ⌝ }
+    ensures { λ _. ⌜ Marked (now (reads .entry)) (now (sources .entry)) (now (writes .entry)) width width (now (places .entry))
+        (now (words .entry)) (now (places .exit)) (now (words .exit)) ⌝ }
 {
     let mut k = 0;
     while k < width {
@@ -85,7 +86,8 @@ fn gather_line(
     writes: &mut [u16],
 ) -> Gathered
     requires { ⌜ Shaped shape × (t < cycles (shape .words) (shape .width)) ⌝ }
-    requires { ⌜ (length (now setting) ≡ mostSwitches) × (length (now reads) ≡ mostWidth) × (length (now standing) ≡ mostWidth) × (length (now writes) ≡ mostWidth) ⌝ }
+    requires { ⌜ (length (now setting) ≡ mostSwitches) × (length (now reads) ≡ mostWidth) × (length (now standing) ≡ mostWidth)
+        × (length (now writes) ≡ mostWidth) ⌝ }
     requires { ⌜ Gather (shape .words) (shape .width) (now file) t (now places) (now words) ⌝ }
     ensures { λ r. ⌜ Gathers (shape .words) (shape .width) (now (file .entry)) t r (now (places .exit)) (now (words .exit)) ⌝ }
 {
@@ -150,7 +152,8 @@ fn write_images(places: &[u16], images: &mut [u16], n: usize)
 // Reads a set of the right form.
 fn read_set(file: &[u8], shape: Shape, images: &mut [u16], scratch: &[u16]) -> Reading
     requires { ⌜ Shaped shape ⌝ }
-    ensures { λ r. ⌜ readOutcome r (now (images .exit)) ≡ readLines (shape .words) (shape .width) (now (file .entry)) (now (images .entry)) (now (scratch .entry)) ⌝ }
+    ensures { λ r. ⌜ readOutcome r (now (images .exit))
+        ≡ readLines (shape .words) (shape .width) (now (file .entry)) (now (images .entry)) (now (scratch .entry)) ⌝ }
 {
     let words = shape.words;
     if images.len() < words {

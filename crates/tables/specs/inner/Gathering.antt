@@ -35,7 +35,8 @@ pub record Gather (n w : ℕ) (file : List ℕ) (t : ℕ) (places words : List �
 -- what the answer to one line says: it passed, or the scan of the lines stops there
 abbrev pub Gathers : ℕ → ℕ → List ℕ → ℕ → Gathered → List ℕ → List ℕ → Type 0
 Gathers n w file t All places words = Gather n w file (t + 1) places words
-Gathers n w file t (Refused r) places words = (k : ℕ) (refused : Refusal → ReadOutcome) (next : ReadOutcome) → scanLines n w file (suc k) t refused next ≡ refused r
+Gathers n w file t (Refused r) places words =
+    (k : ℕ) (refused : Refusal → ReadOutcome) (next : ReadOutcome) → scanLines n w file (suc k) t refused next ≡ refused r
 
 -- what the answer to all lines says
 abbrev pub GathersAll : ℕ → ℕ → List ℕ → Gathered → List ℕ → List ℕ → Type 0

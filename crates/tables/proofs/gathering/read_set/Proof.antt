@@ -47,16 +47,32 @@ slice-aggregate-write-images c = search needs
 write-images-requires : tie.Need-write-images-requires
 write-images-requires c κs = search needs
 
+-- the places, and what the answer of gathering says
+abbrev roomy : tie.After-gather → tie.Else2
+roomy c = c .before .before .before
+
+abbrev start : tie.After-gather → tie.Start
+start c = roomy c .before .before .before .before .before
+
+abbrev gathered : tie.After-enum-told → tie.After-gather
+gathered c = c .before .before .before .before
+
+abbrev written : tie.After-slice-known2 → tie.After-write-images
+written c = c .before .before
+
+abbrev Says : tie.After-gather → Gathered → Type 0
+Says c answer =
+    let s = start c in
+    GathersAll (s .args .shape .words) (s .args .shape .width) (s .args .file .now) answer (c .gather .last .1 .1 .0) (c .gather .last .1 .1 .1 .0)
+
 returns-3 : tie.Need-returns-3
 unfolding readLines
 returns-3 c =
-    let s = c .before .before .before .before .before .before .before .before .before .before .before .before .before in
-    let n = s .args .shape .words in
-    let w = s .args .shape .width in
-    let images = s .args .images .now in
-    let G : Gathered → Type 0 = λ g. GathersAll n w (s .args .file .now) g (c .before .before .before .before .before .gather .last .1 .1 .0) (c .before .before .before .before .before .gather .last .1 .1 .1 .0) in
-    let stops = subst G (c .before .refusal .given .1) (c .before .before .before .before .before .gather .ensures) in
-    ifLt-no _ _ _ _ _ (c .before .before .before .before .before .before .before .before .before .if1 .left) (ifLt-no _ _ _ _ _ (c .before .before .before .before .before .before .before .before .if2 .left) (sym (stops (λ r. readOutcome (Refused r) images) _)))
+    let g = c .before .before .before .before .before in
+    let images = start g .args .images .now in
+    let stops = subst (Says g) (c .before .refusal .given .1) (g .gather .ensures) in
+    ifLt-no _ _ _ _ _ (roomy g .before .if1 .left)
+    (ifLt-no _ _ _ _ _ (roomy g .if2 .left) (sym (stops (λ r. readOutcome (Refused r) images) _)))
 
 same-length : tie.Need-same-length
 same-length c = search needs
@@ -64,15 +80,17 @@ same-length c = search needs
 returns-4 : tie.Need-returns-4
 unfolding readLines
 returns-4 c =
-    let s = c .before .before .before .before .before .before .before .before .before .before .before .before .before .before .before .before .before in
+    let told = written c .before .before .before in
+    let g = gathered told in
+    let s = start g in
     let n = s .args .shape .words in
     let w = s .args .shape .width in
     let images = s .args .images .now in
-    let G : Gathered → Type 0 = λ g. GathersAll n w (s .args .file .now) g (c .before .before .before .before .before .before .before .before .before .gather .last .1 .1 .0) (c .before .before .before .before .before .before .before .before .before .gather .last .1 .1 .1 .0) in
-    let D = s .pre .dims in
-    let all : Gather n w (s .args .file .now) _ _ _ = subst G (c .before .before .before .before .before .enum-told .given .1) (c .before .before .before .before .before .before .before .before .before .gather .ensures) in
-    let made = c .before .before .write-images .ensures ∙ overwrite-ext n _ (imageOf n w (s .args .file .now)) images (gather-images D all) in
-    ifLt-no _ _ _ _ _ (c .before .before .before .before .before .before .before .before .before .before .before .before .before .if1 .left) (ifLt-no _ _ _ _ _ (c .before .before .before .before .before .before .before .before .before .before .before .before .if2 .left)
+    let all : Gather n w (s .args .file .now) _ _ _ = subst (Says g) (told .enum-told .given .1) (g .gather .ensures) in
+    let made = written c .write-images .ensures
+    ∙ overwrite-ext n _ (imageOf n w (s .args .file .now)) images (gather-images (s .pre .dims) all) in
+    ifLt-no _ _ _ _ _ (roomy g .before .if1 .left)
+    (ifLt-no _ _ _ _ _ (roomy g .if2 .left)
     (ap (λ (xs : List ℕ). readAs n w (s .args .file .now) xs) made ∙ sym (gather-scan all (λ r. readOutcome (Refused r) images) _)))
 
 pub read-set-spec : {M : Type 1} → statement M
