@@ -8,7 +8,7 @@ use lib.ListN.{length, getD, set, length-set}
 use Rattle.laws.specs.Permutation.{Permutes, inverse}
 use Rattle.laws.specs.Inverting.{Inverting}
 use Rattle.laws.proofs.Tabulates.{stored-turn}
-use Rattle.laws.proofs.Permutations.{inverse-below, inverse-unique}
+use Rattle.laws.proofs.Permutations.{inverse-unique}
 
 pub inverting-none : {size : ℕ} {images back : List ℕ} → length back ≡ size → Inverting size images 0 back
 inverting-none long = record { long = long; filled = λ x l. absurd (omega arith) }
@@ -26,6 +26,3 @@ module _ {size n : ℕ} {images back : List ℕ} (P : Permutes n (λ x. getD ima
   -- all entries
   pub inverting-is : Inverting size images n back → (y : ℕ) → y < n → getD back y 0 ≡ inverse n (λ x. getD images x 0) y
   inverting-is I = inverse-unique n (λ x. getD images x 0) P (λ y. getD back y 0) (I .filled)
-
-  pub inverting-below : Inverting size images n back → (y : ℕ) → y < n → getD back y 0 < n
-  inverting-below I y l = rw (inverting-is I y l) (inverse-below n (λ x. getD images x 0) P y l)

@@ -3,9 +3,9 @@
 use Prim.Native.Nat.{ℕ}
 use mathlib.Core.Path.{_≡_, sym, subst, _∙_}
 use mathlib.Core.List.{List}
-use native.Mathlib.Omega.{arith}
 use borrow.Author.Needs.{needs}
 use lib.ListN.{replicate}
+use Rattle.laws.proofs.Choices.{zero-not-one}
 use Rattle.limits.specs.Limits.{mostWords, noWord}
 use Rattle.laws.specs.Tabulate.{overwrite}
 use Rattle.tables.specs.Format.{Shaped, openOf}
@@ -84,7 +84,7 @@ returns c = λ images scratch l m.
       images,
       sym (read-unopened (start o .args .file .now) images scratch _ (sym (o .«open» .ensures) ∙ c .before .refusal .given .1)),
       λ contents e.
-          let z : _≡_ {A = ℕ} 0 1 = cc e in absurd (omega arith),
+          absurd (zero-not-one (cc e)),
     )
 
 same-length : tie.Need-same-length
@@ -98,7 +98,7 @@ returns-2 c = λ images scratch l m.
       images,
       stopped-reads (start-shape k .args .file .now) (opened k) (shaped k .dims) images scratch l m stops,
       λ contents e.
-          let z : _≡_ {A = ℕ} 0 1 = cc e in absurd (omega arith),
+          absurd (zero-not-one (cc e)),
     )
 
 same-length-2 : tie.Need-same-length-2
