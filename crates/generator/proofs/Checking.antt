@@ -12,7 +12,8 @@ use Rattle.images.specs.declared.Checked.the-variants.{Permutation, Refused}
 use Rattle.images.proofs.Exact.{not-refused, check-permutes, permutes-check}
 use Rattle.tables.specs.Terms.{fileLength}
 use Rattle.tables.proofs.LimitTests.{limit-cases, limit-passes}
-use Rattle.generator.specs.Generating.{scratchNeed, Generable, lentTest, checksOf, generateOutcome, Filled, Generates}
+use Rattle.generator.specs.Generating.{scratchNeed, extentOf, Generable, lentTest, checksOf, generateOutcome, Filled, Generates}
+use Rattle.generator.specs.declared.Extent.{Extent}
 use Rattle.generator.specs.declared.Generation.the-variants.{Written, Refused as Unmade}
 
 module _ (n w : ℕ) (images : List ℕ) (room scratch : ℕ) where
@@ -57,7 +58,7 @@ module _ {n w : ℕ} {images file scratch : List ℕ} where
     generated = λ e. absurd (not-refused r (sym h ∙ e));
   }
 
-  pub generates-made : {length′ : ℕ} {file′ scratch′ : List ℕ} → checksOf n w images (length file) (length scratch) ≡ Permutation
-      → length′ ≡ fileLength n w → Filled n w images file scratch file′ scratch′
-      → Generates n w images file scratch (Written length′) file′ scratch′
+  pub generates-made : {extent : Extent} {file′ scratch′ : List ℕ} → checksOf n w images (length file) (length scratch) ≡ Permutation
+      → extent ≡ extentOf n w → Filled n w images file scratch file′ scratch′
+      → Generates n w images file scratch (Written extent) file′ scratch′
   generates-made h same F = record { refused = λ r e. absurd (not-refused r (sym e ∙ h)); generated = λ _. (ap Written same, F) }

@@ -13,12 +13,17 @@ use Rattle.images.specs.Images.{checkOf, orderOf}
 use Rattle.laws.specs.Permutation.{Permutes}
 use Rattle.tables.specs.Terms.{Dims, fileLength, limitTest}
 use Rattle.tables.specs.Generated.{Schedule, setOf}
+use Rattle.generator.specs.declared.Extent.{Extent}
 use Rattle.generator.specs.declared.Generation.{Generation}
 use Rattle.generator.specs.declared.Generation.the-variants.{Written, Refused as Unmade}
 
 -- the scratch words that are asked for
 unfoldable pub scratchNeed : ℕ → ℕ
 scratchNeed n = 4 * n + 1024
+
+-- what an accepted generation returns: the file's length
+abbrev pub extentOf : ℕ → ℕ → Extent
+extentOf n w = record { length = fileLength n w }
 
 -- what a set can be generated from: n and w keep their limits, enough memory is lent, and the images are a permutation
 pub record Generable (n w : ℕ) (images : List ℕ) (room scratch : ℕ) : Type 0 where
@@ -62,9 +67,9 @@ pub record Generates (n w : ℕ) (images file scratch : List ℕ) (answer : Gene
       → generateOutcome answer file′ scratch′ ≡ generateOutcome (Unmade r) file scratch
   -- every other call makes a set
   pub generated : checksOf n w images (length file) (length scratch) ≡ Permutation
-      → (answer ≡ Written (fileLength n w)) × Filled n w images file scratch file′ scratch′
+      → (answer ≡ Written (extentOf n w)) × Filled n w images file scratch file′ scratch′
 
 -- "generating, the file's length"
 unfoldable pub generationReply : Generation → Reply
-generationReply (Written long) = accepts (long ∷ [])
+generationReply (Written extent) = accepts (extent .length ∷ [])
 generationReply (Unmade r) = refusalReply r

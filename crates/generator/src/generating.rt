@@ -9,7 +9,8 @@ ghost use Rattle.tables.specs.Terms.{Dims, fileLength};
 ghost use Rattle.tables.specs.Format.{Shaped};
 ghost use Rattle.tables.specs.inner.Buffers.{Written};
 ghost use Rattle.generator.specs.inner.Schedule.{Linked, Drawn};
-ghost use Rattle.generator.specs.Generating.{lentTest, checksOf, Made, Filled, Generates};
+ghost use Rattle.generator.specs.Generating.{extentOf, lentTest, checksOf, Made, Filled, Generates};
+use crate::Extent;
 use crate::Generation;
 use crate::scheduling::HEADS;
 use crate::scheduling::chain;
@@ -101,17 +102,18 @@ fn put_set(
 }
 
 // Writes the set of a permutation. The first n words of `next` hold the chains of words.
-fn make(images: &[u16], n: usize, w: usize, file: &mut [u8], next: &mut [u16]) -> usize
+fn make(images: &[u16], n: usize, w: usize, file: &mut [u8], next: &mut [u16]) -> Extent
     requires { ⌜ Dims n w × (n ≤ length (now images)) × (n ≤ length (now next)) × (fileLength n w ≤ length (now file)) ⌝ }
     requires { ⌜ Permutes n (orderOf n (now images)) ⌝ }
-    ensures { λ r. ⌜ (r ≡ fileLength n w)
+    ensures { λ r. ⌜ (r ≡ extentOf n w)
         × Filled n w (now (images .entry)) (now (file .entry)) (now (next .entry)) (now (file .exit)) (now (next .exit)) ⌝ }
 {
     let shape = tables::shape_of(n, w);
     let mut edges = [0u64; MOST_WIDTH];
     let mut heads = chain(images, n, w, next, &mut edges);
     put_set(images, next, &mut heads, &mut edges, shape, file);
-    tables::file_length(shape)
+    let length = tables::file_length(shape);
+    Extent { length }
 }
 
 // A table set for a permutation, at the front of the file: its length, or a refusal.

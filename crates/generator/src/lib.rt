@@ -5,9 +5,14 @@ mod scheduling;
 pub use generating::generate;
 use refusal::Refusal;
 
+// What an accepted generation returns.
+pub struct Extent {
+    // The length of the file in bytes.
+    pub length: usize,
+}
+
 // What generating answers.
 pub enum Generation {
-    // The length of the file in bytes.
-    Written(usize),
+    Written(Extent),
     Refused(Refusal),
 }

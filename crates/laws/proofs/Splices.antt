@@ -1,11 +1,11 @@
 -- Laws of parts. A part of a slice that was lent to a call comes back as a `splice`: its length, what stands before, inside and
 -- behind the part, and the part itself.
 use Prim.Native.Nat.{ℕ, _+_, _-_, _<_, _≤_}
-use mathlib.Core.Path.{_≡_, sym, ap, _∙_}
-use mathlib.Core.List.{List, _++_}
+use mathlib.Core.Path.{_≡_, ap, _∙_}
+use mathlib.Core.List.{List}
 use native.Mathlib.Omega.{arith}
 use lib.ListN.{length, getD, take, drop, length-append, length-take, length-drop, List·getD-append}
-use lib.Seq.{length-take-le, getD-take, getD-drop, getD-append-add, ext-getD, take-at, drop-at}
+use lib.Seq.{length-take-le, getD-take, getD-drop, getD-append-add}
 use Rattle.laws.specs.Splice.{part, splice}
 
 module _ {A : Type 0} where
@@ -14,14 +14,6 @@ module _ {A : Type 0} where
 
   pub getD-part : (a k : ℕ) (xs : List A) (i : ℕ) (d : A) → i < k → getD (part a k xs) i d ≡ getD xs (a + i) d
   getD-part a k xs i d h = getD-take k (drop a xs) i d h ∙ getD-drop a xs i d
-
-  -- parts of two lists that agree there
-  pub part-ext : (a k : ℕ) (xs ys : List A) (d : A) → a + k ≤ length xs → a + k ≤ length ys
-      → ((i : ℕ) → a ≤ i → i < a + k → getD xs i d ≡ getD ys i d) → part a k xs ≡ part a k ys
-  part-ext a k xs ys d hx hy same =
-      ext-getD d (part a k xs) (part a k ys) (length-part a k xs hx ∙ sym (length-part a k ys hy)) λ i l.
-      let b : i < k = rw (length-part a k xs hx) at l in
-      getD-part a k xs i d b ∙ same (a + i) (omega arith) (omega arith) ∙ sym (getD-part a k ys i d b)
 
   module _ (a k : ℕ) (ys xs : List A) (fits : a + k ≤ length xs) (long : length ys ≡ k) where
     length-front : length (take a xs) ≡ a
@@ -45,6 +37,3 @@ module _ {A : Type 0} where
         let f : a + (k + j) ≡ i = omega arith in
         ap (λ (x : ℕ). getD (splice a k ys xs) x d) e ∙ getD-append-add (take a xs) _ _ d ∙ getD-append-add ys _ _ d
         ∙ getD-drop k (drop a xs) j d ∙ getD-drop a xs _ d ∙ ap (λ (x : ℕ). getD xs x d) f
-
-    pub part-splice : part a k (splice a k ys xs) ≡ ys
-    part-splice = rw (drop-at (take a xs) (ys ++ drop k (drop a xs)) a length-front) (take-at ys (drop k (drop a xs)) k long)

@@ -7,8 +7,8 @@ use native.Mathlib.Omega.{arith}
 use native.Mathlib.Numerals.{add-one}
 use native.Mathlib.Decide.{decLt}
 use native.Mathlib.Nat.{add-zero, add-suc}
-use lib.ListN.{length, take, drop, set, getD, length-append, length-drop, length-set, List·getD-append, List·getD-eq-default}
-use lib.Seq.{getD-set-same, getD-set-other, drop-cons, set-at, append-snoc, getD-at, getD-drop, getD-append-add, ext-getD, take-at, drop-at}
+use lib.ListN.{length, drop, set, getD, length-append, length-drop, length-set, List·getD-append, List·getD-eq-default}
+use lib.Seq.{getD-set-same, getD-set-other, drop-cons, set-at, append-snoc, getD-at, getD-drop, getD-append-add, ext-getD}
 use Rattle.laws.specs.Tabulate.{tabulate, overwrite}
 
 module _ {A : Type 0} where
@@ -74,14 +74,6 @@ module _ {A : Type 0} where
       let g : n + (i - n) ≡ i = omega arith in
       ap (λ (j : ℕ). getD (tabulate n f ++ drop n xs) j d) e ∙ getD-append-add (tabulate n f) (drop n xs) (i - n) d ∙ getD-drop n xs (i - n) d
       ∙ ap (λ (j : ℕ). getD xs j d) g
-
-  pub take-overwrite : (n : ℕ) (f : ℕ → A) (xs : List A) → take n (overwrite n f xs) ≡ tabulate n f
-  unfolding overwrite
-  take-overwrite n f xs = take-at (tabulate n f) (drop n xs) n (length-tabulate n f)
-
-  pub drop-overwrite : (n : ℕ) (f : ℕ → A) (xs : List A) → drop n (overwrite n f xs) ≡ drop n xs
-  unfolding overwrite
-  drop-overwrite n f xs = drop-at (tabulate n f) (drop n xs) n (length-tabulate n f)
 
   pub overwrite-ext : (n : ℕ) (f g : ℕ → A) (xs : List A) → ((i : ℕ) → i < n → f i ≡ g i) → overwrite n f xs ≡ overwrite n g xs
   unfolding overwrite

@@ -1,21 +1,18 @@
 -- What a step does to the memories, position by position. The entering words and the moves of a line are stores, at spots that differ, so
--- each spot that is named gets its word, and all others and whatever lies behind the 2n words stay as they were. A line reads half 1-h of
--- the first memory only, and the leaving words are read from half 1-h of the second.
+-- each spot that is named gets its word, and all others and whatever lies behind the 2n words stay as they were.
 use Prim.Native.Nat.{ℕ, zero, suc, _*_, _-_, _<_, _≤_}
 use mathlib.Core.Path.{_≡_, refl, sym, ap, _∙_}
 use mathlib.Core.List.{List}
 use native.Mathlib.Omega.{arith}
 use lib.ListN.{length, getD}
 use Rattle.laws.specs.Permutation.{Injective}
-use Rattle.laws.specs.Tabulate.{overwrite}
-use Rattle.laws.proofs.Tabulates.{length-overwrite, getD-overwrite, getD-overwrite-past}
 use Rattle.tables.specs.Terms.{cycles}
 use Rattle.tables.specs.Format.{readAddress, writeAddress}
 use Rattle.tables.specs.Datapath.{carriedTo}
 use Rattle.tables.proofs.Dims.{Dims}
 use Rattle.tables.proofs.Targets.{carriedTo-injective}
 use Rattle.tables.proofs.Within.{Within}
-use Rattle.machine.specs.Step.{spot, leaving, moving, entering}
+use Rattle.machine.specs.Step.{spot, moving, entering}
 use Rattle.machine.specs.declared.Clock.{Clock}
 use Rattle.machine.proofs.Spots.{spot-below, spot-injective, banks-size, spot-fits}
 use Rattle.machine.proofs.Stores.{stored, length-stored, stored-other, stored-at, stored-ext}
@@ -161,27 +158,3 @@ module _ {n w : ℕ} {file : List ℕ} (D : Dims n w) (clock : Clock) (half : cl
         spot-below (cycles n w) (clock .half) k (writeAddress n w file (clock .cycle) k) half
         (write-inside (clock .half) (clock .cycle) half I b q) w (I .carries b q) in
         omega (arith, banks-size D)
-
-  -- only half 1-h of the first memory is read
-  pub moving-reads : (first first′ second : List ℕ)
-      → ((b p : ℕ) → b < w → p < cycles n w
-      → getD first (spot (cycles n w) (1 - clock .half) b p) 0 ≡ getD first′ (spot (cycles n w) (1 - clock .half) b p) 0)
-      → moving n w file clock first w second ≡ moving n w file clock first′ w second
-  moving-reads first first′ second same =
-      moving-ext n w file clock second first first′ (λ b l. same b (readAddress n w file (clock .cycle) b) l (I .reads b l))
-
--- ---- the leaving words
-
-module _ (c : ℕ) (clock : Clock) (second : List ℕ) (w : ℕ) (out : List ℕ) where
-  pub length-leaving : w ≤ length out → length (overwrite w (leaving c clock second) out) ≡ length out
-  length-leaving = length-overwrite w (leaving c clock second) out
-
-  -- the word of port k
-  pub leaving-at : (k : ℕ) → k < w
-      → getD (overwrite w (leaving c clock second) out) k 0 ≡ getD second (leaveSpot c (clock .half) (clock .cycle) k) 0
-  unfolding leaving
-  leaving-at k = getD-overwrite w (leaving c clock second) out k 0
-
-  -- later words
-  pub leaving-behind : (j : ℕ) → w ≤ j → getD (overwrite w (leaving c clock second) out) j 0 ≡ getD out j 0
-  leaving-behind j = getD-overwrite-past w (leaving c clock second) out j 0

@@ -40,10 +40,6 @@ module _ (c h b p : ℕ) (half : h < 2) (inside : p < c) where
         let inner = word-injective c h k p q inside inside′ (outer .1) in
         (inner .0, outer .0, inner .1)
 
-    -- different halves never coincide
-    pub halves-apart : (h ≡ k → ⊥) → spot c h b p ≡ spot c k d q → ⊥
-    halves-apart differ e = differ (spot-injective e .0)
-
 -- w banks of 2c words are 2n words
 pub banks-size : {n w : ℕ} → Dims n w → w * (2 * cycles n w) ≡ 2 * n
 banks-size {n} {w} D = mul-comm w (2 * cycles n w) ∙ mul-assoc 2 (cycles n w) w ∙ ap (λ (z : ℕ). 2 * z) (cycles-mul D)

@@ -50,7 +50,7 @@ demand-3 n w images file scratch answer file′ scratch′ R G =
     let F = A .1 in
     let long : length (setOf n w (orderOf n images) (F .made .reads)) ≡ fileLength n w = length-setOf n w (orderOf n images) (F .made .reads) in
     rw (front F) (record {
-      accepted = A .0 ∙ ap Written (sym long);
+      accepted = A .0 ∙ ap (λ (k : ℕ). Written (record { length = k })) (sym long);
       long = long;
       reads = λ out memory l m. generated-reads out memory (R .dims) (R .permutes) (F .made .schedule) l m;
       streams = generated-is-plain (R .dims) (R .permutes) (F .made .schedule);

@@ -18,7 +18,8 @@ use Rattle.tables.specs.Reading.{readOutcome, readAs, readOf}
 use Rattle.tables.specs.declared.Reading.the-variants.{Refused as Unread}
 use Rattle.machine.specs.Devices.{Feed, feed, Seen, seen, filling, wrote, After, run}
 use Rattle.machine.specs.Plain.{Row, empty, given, took, plain}
-use Rattle.generator.specs.Generating.{Generable, Generates}
+use Rattle.generator.specs.Generating.{extentOf, Generable, Generates}
+use Rattle.generator.specs.declared.Extent.{Extent}
 use Rattle.generator.specs.declared.Generation.{Generation}
 use Rattle.generator.specs.declared.Generation.the-variants.{Written, Refused as Unmade}
 use Rattle.generator.proofs.Checking.{passed-checks}
@@ -28,14 +29,16 @@ module _ {n w : ℕ} {images file scratch : List ℕ} {answer : Generation} {fil
     (R : Generable n w images (length file) (length scratch)) (G : Generates n w images file scratch answer file′ scratch′) where
   -- a generator that turns down all or hard permutations
   pub none-turned-down : (r : Refusal) → answer ≡ Unmade r → ⊥
-  none-turned-down r e = let q : Written (fileLength n w) ≡ Unmade r = sym (G .generated (passed-checks R) .0) ∙ e in
+  none-turned-down r e = let q : Written (extentOf n w) ≡ Unmade r = sym (G .generated (passed-checks R) .0) ∙ e in
       zero-not-one cc
 
   -- a generator that reports a length that it did not write
-  pub length-reported : (k : ℕ) → answer ≡ Written k → k ≡ length (take (fileLength n w) file′)
-  length-reported k e =
-      let q : Written (length (take (fileLength n w) file′)) ≡ Written k = sym (demand-3 n w images file scratch answer file′ scratch′ R G .accepted) ∙ e in
-      cc
+  pub length-reported : (extent : Extent) → answer ≡ Written extent → extent .length ≡ length (take (fileLength n w) file′)
+  length-reported extent e =
+      let q : Written (record { length = length (take (fileLength n w) file′) }) ≡ Written extent =
+      sym (demand-3 n w images file scratch answer file′ scratch′ R G .accepted) ∙ e in
+      let z : _≡_ {A = Extent} (record { length = length (take (fileLength n w) file′) }) extent = cc in
+      sym (ap (λ (x : Extent). x .length) z)
 
   module _ (out memory : List ℕ) (l : n ≤ length out) (m : 2 * n ≤ length memory) where
     reads : readOf (take (fileLength n w) file′) out memory ≡ readAs n w (take (fileLength n w) file′) (overwrite n (orderOf n images) out)

@@ -14,6 +14,7 @@ use Rattle.tables.specs.Format.{shapeOf, openOf}
 use Rattle.tables.specs.Reading.{readOf, readAs, readOutcome}
 use Rattle.tables.specs.declared.Opened.the-variants.{Set}
 use Rattle.tables.specs.declared.Reading.the-variants.{Refused as Unread}
+use Rattle.generator.specs.Generating.{extentOf}
 use Rattle.generator.specs.declared.Generation.{Generation}
 use Rattle.generator.specs.declared.Generation.the-variants.{Written as Made, Refused as Unmade}
 use Rattle.machine.specs.Step.{nextClock, saysOf, StepOutcome, stepOutcome}
@@ -43,7 +44,7 @@ ReadLends file images scratch =
 abbrev pub GenerateLends : ℕ → ℕ → List ℕ → List ℕ → Generation → List ℕ → List ℕ → Type 0
 GenerateLends n w file scratch answer file′ scratch′ =
     ((r : Refusal) × (answer ≡ Unmade r) × (file′ ≡ file) × (scratch′ ≡ scratch))
-    ⊎ ((answer ≡ Made (fileLength n w)) × Only (fileLength n w) file file′ × Only n scratch scratch′)
+    ⊎ ((answer ≡ Made (extentOf n w)) × Only (fileLength n w) file file′ × Only n scratch scratch′)
 
 -- what an accepted step on a set of n words and width w alters
 pub record Moved (file first second out : List ℕ) (n w : ℕ) (first′ second′ out′ : List ℕ) : Type 0 where

@@ -21,7 +21,7 @@ use Rattle.generator.specs.declared.Generation.the-variants.{Written}
 -- what the answer of generating and the lent file afterwards are good for
 pub record Good (n w : ℕ) (images : List ℕ) (answer : Generation) (made : List ℕ) : Type 0 where
   -- a set is generated; `made` is as many bytes as the answer says
-  pub accepted : answer ≡ Written (length made)
+  pub accepted : answer ≡ Written (record { length = length made })
   pub long : length made ≡ fileLength n w
   -- it reads as the permutation
   pub reads : (out scratch : List ℕ) → n ≤ length out → 2 * n ≤ length scratch

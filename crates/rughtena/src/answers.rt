@@ -29,9 +29,9 @@ pub fn of_generation(core: Generation) -> Answer
     ensures { λ r. ⌜ r ≡ generationAnswer core ⌝ }
 {
     match core {
-        Generation::Written(length) => Answer {
+        Generation::Written(extent) => Answer {
             number: 0,
-            value: length,
+            value: extent.length,
         },
         Generation::Refused(refusal) => of_refusal(refusal),
     }

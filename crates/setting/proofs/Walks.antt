@@ -2,7 +2,7 @@
 -- that belongs to the upper half, and paints the lines of its orbit 0 and their partners 1 until it is back. As `chosen` does not change
 -- along an orbit, each line gets its chosen half; between walks whole loops are painted. In the end every line has its half.
 use Prim.Native.Nat.{ℕ, zero, suc, _+_, _*_, _-_, _/_, _%_, _<_, _≤_}
-use mathlib.Core.Path.{_≡_, refl, sym, ap, subst, _∙_}
+use mathlib.Core.Path.{_≡_, sym, ap, subst, _∙_}
 use mathlib.Core.List.{List}
 use mathlib.Core.Logic.{_⊎_, inl, inr, ⊎-elim}
 use native.Mathlib.Omega.{arith}
@@ -17,7 +17,7 @@ use Rattle.network.specs.Setting.{next, chosen}
 use Rattle.network.proofs.Partners.{partner-below, partner-differs, same-switch, next-permutes}
 use Rattle.network.proofs.Orbits.{iterate, iterate-suc, iterate-step, iterate-add, iterate-below, orbit-round}
 use Rattle.network.proofs.Loops.{loop-trans, loop-sym, loop-below, orbit-loop, loop-orbit, orbit-partner}
-use Rattle.network.proofs.Halves.{halves-ext, halves-partner, halves-orbit}
+use Rattle.network.proofs.Halves.{halves-partner, halves-orbit}
 use Rattle.network.proofs.Exists.{chosen-halves}
 
 -- between walks
@@ -257,9 +257,3 @@ module _ (n : ℕ) (p : ℕ → ℕ) (P : Permutes n p) (even : n % 2 ≡ 0) whe
           ⊎-elim (λ e. rw e s) (λ e. rw e (T .whole (2 * j) (partner (2 * j)) l (input itself) s)) (same-switch (2 * j) x (omega arith))
     ];
   }
-
-  -- once all switches are done, the list has the halves of the rule
-  pub swept-halves : (h : List ℕ) (j : ℕ) → Swept n p j h → n ≤ 2 * j → Halves n p (λ x. getD h x 0)
-  swept-halves h j S m =
-      halves-ext n p p (chosen n p) (λ x. getD h x 0) even (λ x l. refl)
-      (λ x l. sym (S .painted .right x l (S .lower x l (omega arith)))) (chosen-halves n p P even)

@@ -63,12 +63,6 @@ abbrev faults : ℕ → ℕ → (ℕ → ℕ → ℕ) → ℕ → Bool
 faults w c f t = any w (λ b. fault c (λ s. f s b) t)
 
 module _ (w c : ℕ) (f : ℕ → ℕ → ℕ) where
-  faults-large : (t b : ℕ) → b < w → c ≤ f t b → faults w c f t ≡ true
-  faults-large t b l h = any-some w (λ b. fault c (λ s. f s b) t) b l (fault-large c (λ s. f s b) t h)
-
-  faults-repeated : (t b s : ℕ) → b < w → s < t → f s b ≡ f t b → faults w c f t ≡ true
-  faults-repeated t b s l m e = any-some w (λ b. fault c (λ s. f s b) t) b l (fault-repeated c (λ s. f s b) t s m e)
-
   faults-none : (t : ℕ) → ((b : ℕ) → b < w → f t b < c) → ((b s : ℕ) → b < w → s < t → f s b ≡ f t b → ⊥) → faults w c f t ≡ false
   faults-none t below fresh =
       any-none w (λ b. fault c (λ s. f s b) t) (λ b l. fault-none c (λ s. f s b) t (below b l) (λ s. fresh b s l))
@@ -101,41 +95,9 @@ module _ (n w : ℕ) (file : List ℕ) where
     pub writes : any w (writeFault n w file t) ≡ false
 
   module _ (t : ℕ) where
-    pub read-large : (b : ℕ) → b < w → cycles n w ≤ readAddress n w file t b → any w (readFault n w file t) ≡ true
-    unfolding readFault
-    read-large = faults-large w (cycles n w) (readAddress n w file) t
-
-    pub read-repeated : (b s : ℕ) → b < w → s < t → readAddress n w file s b ≡ readAddress n w file t b
-        → any w (readFault n w file t) ≡ true
-    unfolding readFault
-    read-repeated = faults-repeated w (cycles n w) (readAddress n w file) t
-
-    pub read-passes : ((b : ℕ) → b < w → readAddress n w file t b < cycles n w)
-        → ((b s : ℕ) → b < w → s < t → readAddress n w file s b ≡ readAddress n w file t b → ⊥) → any w (readFault n w file t) ≡ false
-    unfolding readFault
-    read-passes = faults-none w (cycles n w) (readAddress n w file) t
-
-    pub carry-large : (b : ℕ) → b < w → w ≤ carriedTo n w file t b → carryStrays n w file t ≡ true
-    unfolding carryStrays
-    carry-large b l h = any-some w (λ b. leb w (carriedTo n w file t b)) b l (le-leb w (carriedTo n w file t b) h)
-
     pub carry-passes : ((b : ℕ) → b < w → carriedTo n w file t b < w) → carryStrays n w file t ≡ false
     unfolding carryStrays
     carry-passes below = any-none w (λ b. leb w (carriedTo n w file t b)) (λ b l. lt-leb w (carriedTo n w file t b) (below b l))
-
-    pub write-large : (k : ℕ) → k < w → cycles n w ≤ writeAddress n w file t k → any w (writeFault n w file t) ≡ true
-    unfolding writeFault
-    write-large = faults-large w (cycles n w) (writeAddress n w file) t
-
-    pub write-repeated : (k s : ℕ) → k < w → s < t → writeAddress n w file s k ≡ writeAddress n w file t k
-        → any w (writeFault n w file t) ≡ true
-    unfolding writeFault
-    write-repeated = faults-repeated w (cycles n w) (writeAddress n w file) t
-
-    pub write-passes : ((k : ℕ) → k < w → writeAddress n w file t k < cycles n w)
-        → ((k s : ℕ) → k < w → s < t → writeAddress n w file s k ≡ writeAddress n w file t k → ⊥) → any w (writeFault n w file t) ≡ false
-    unfolding writeFault
-    write-passes = faults-none w (cycles n w) (writeAddress n w file) t
 
   -- ---- all lines pass exactly where the set is accepted
 

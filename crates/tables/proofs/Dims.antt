@@ -47,9 +47,6 @@ pub logUp-least : (x e : ℕ) → x ≤ 2 ^ e → logUp x ≤ e
 unfolding logUp
 logUp-least x e h = logFrom-least x x 0 e (omega arith) h
 
-pub logUp-one : logUp 1 ≡ 0
-logUp-one = omega (arith, logUp-least 1 0 (omega arith))
-
 -- ---- what valid dimensions determine
 
 -- a network of at most 64 lines
@@ -79,11 +76,6 @@ module _ {n w : ℕ} (D : Dims n w) where
   pub addressBits-few : addressBits n w ≤ 12
   unfolding addressBits
   addressBits-few = logUp-least (cycles n w) 12 (omega (arith, cycles-few))
-
-  -- where a frame is one cycle, addresses have no bits
-  pub addressBits-none : cycles n w ≡ 1 → addressBits n w ≡ 0
-  unfolding addressBits
-  addressBits-none e = ap logUp e ∙ logUp-one
 
   pub depth-few : depth w ≤ 6
   unfolding depth

@@ -6,10 +6,9 @@ use mathlib.Core.Path.{_≡_, refl, sym, ap, ap₂, _∙_}
 use mathlib.Core.List.{List}
 use native.Mathlib.Omega.{arith}
 use native.Mathlib.Nat.{mod-lt, div-add-mod'}
-use lib.Arith.{digits-div, digits-mod}
 use lib.ListN.{length, getD}
 use Rattle.laws.specs.Permutation.{Permutes, inverse}
-use Rattle.laws.proofs.Permutations.{inverse-below, inverse-right, inverse-left}
+use Rattle.laws.proofs.Permutations.{inverse-below, inverse-right}
 use Rattle.network.proofs.Leaves.{leaves-injective}
 use Rattle.tables.specs.Terms.{cycles, depth}
 use Rattle.tables.specs.Format.{readAddress, switchBit, writeAddress}
@@ -70,14 +69,6 @@ module _ {n w : ℕ} {file : List ℕ} (D : Dims n w) (A : Accepted n w file) wh
         ap (λ (z : ℕ). z * w + b) read ∙ div-add-mod' i w,
         refl,
       )
-
-  -- the other way round: the image of a source is its target
-  pub image-source : (t b : ℕ) → t < cycles n w → b < w → imageOf n w file (source n w file t b) ≡ target n w file t b
-  unfolding source imageOf
-  image-source t b l m =
-      let f : ℕ → ℕ = λ s. readAddress n w file s b in
-      let back : inverse (cycles n w) f (f t) ≡ t = inverse-left (cycles n w) f (bank-permutes b m) t l in
-      rw (digits-mod (f t) m, digits-div (f t) m) (ap (λ (z : ℕ). target n w file z b) back)
 
   pub image-permutes : Permutes n (imageOf n w file)
   image-permutes = record { below = below; injective = injective }

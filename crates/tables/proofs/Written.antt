@@ -7,12 +7,11 @@ use mathlib.Core.List.{List, _++_}
 use mathlib.Core.Logic.{inl, inr}
 use native.Mathlib.Omega.{arith}
 use native.Mathlib.Decide.{decLt}
-use native.Mathlib.Nat.{add-zero, mod-eq-of-lt}
 use lib.ListN.{length, getD, drop, length-append, length-drop, List·getD-append}
 use lib.Seq.{getD-drop, ext-getD}
 use Rattle.laws.specs.Permutation.{Permutes}
 use Rattle.bits.specs.Bits.{Bytes, digit, bit, putField}
-use Rattle.bits.proofs.Digits.{digit-zero, digits-ext}
+use Rattle.bits.proofs.Digits.{digits-ext}
 use Rattle.bits.proofs.Fields.{bit-byte, putField-bytes, length-putField, bit-putField-inside, bit-putField-outside}
 use Rattle.tables.specs.Terms.{fileLength}
 use Rattle.tables.specs.Generated.{Schedule, setBits, setOf}
@@ -42,13 +41,6 @@ module _ {bits before : List ℕ} where
     ];
     behind = λ i l. bit-putField-outside file at k v i (omega (arith, W .long)) (inr l) ∙ W .behind i (omega arith);
   }
-
-  -- one more bit
-  pub written-bit : {file : List ℕ} {at : ℕ} (v : ℕ) → Written bits before file at → at < 8 * length before → getD bits at 0 ≡ v → v < 2
-      → Written bits before (putField file at 1 v) (at + 1)
-  written-bit {file} {at} v W fits same small = written-field 1 v W (omega arith) λ j l.
-      let z : j ≡ 0 = omega arith in
-      rw (z, add-zero, digit-zero, mod-eq-of-lt small) same
 
   -- zeros
   pub written-zeros : {file : List ℕ} {at : ℕ} (k : ℕ) → Written bits before file at → at + k ≤ 8 * length before

@@ -1,5 +1,6 @@
 -- `generating::make` meets its contract: the words are chained, and the set is put.
-use mathlib.Core.Path.{_≡_, refl, _∙_}
+use Prim.Native.Nat.{ℕ}
+use mathlib.Core.Path.{_≡_, refl, ap, _∙_}
 use native.Mathlib.Omega.{arith}
 use borrow.Author.Needs.{needs}
 use Rattle.tables.specs.Format.{shapeOf}
@@ -62,7 +63,7 @@ returns c =
     let D = s .pre .0 .0 in
     let e = shape-known a in
     let L = d .chain .ensures .0 in (
-      c .file-length .ensures ∙ shape-fileLength D e,
+      ap (λ (k : ℕ). record { length = k }) (c .file-length .ensures ∙ shape-fileLength D e),
       record {
         made = made-at (s .args .images .now) (shape-words D e) (shape-width D e) (q .put-set .ensures);
         scratch-long = L .long;
