@@ -46,9 +46,9 @@ pub record Placed (n w : ℕ) (s : Shape) : Type 0 where
   pub switches-few : s .switches ≤ mostSwitches
   pub width : s .width ≡ w
   pub narrow : s .width ≤ mostWidth
-  pub address-few : s .address ≤ 16
-  pub reached : cycles n w ≤ 2 ^ s .address
-  pub total : s .stride ≡ s .width * s .address + s .switches + s .width * s .address
+  pub address-few : s .addressing ≤ 16
+  pub reached : cycles n w ≤ 2 ^ s .addressing
+  pub total : s .stride ≡ s .width * s .addressing + s .switches + s .width * s .addressing
 
 pub line-placed : {n w : ℕ} {s : Shape} → Dims n w → s ≡ shapeOf n w → Placed n w s
 unfolding shapeOf lineBits addressRow
@@ -97,10 +97,10 @@ module _ {n w : ℕ} {s : Shape} {forward back : List ℕ} (P : Placed n w s) (R
 -- ---- a line that is ready
 
 module _ {n w : ℕ} {s : Shape} {reads forward back writes : List ℕ} (P : Placed n w s) (R : Ready n w reads forward back writes) where
-  pub read-fits : (i : ℕ) → i < s .width → getD reads i 0 < 2 ^ s .address
+  pub read-fits : (i : ℕ) → i < s .width → getD reads i 0 < 2 ^ s .addressing
   read-fits i l = omega (arith, P .reached, R .reads-below i (omega (arith, P .width)))
 
-  pub write-fits : (i : ℕ) → i < s .width → getD writes i 0 < 2 ^ s .address
+  pub write-fits : (i : ℕ) → i < s .width → getD writes i 0 < 2 ^ s .addressing
   write-fits i l = omega (arith, P .reached, R .writes-below i (omega (arith, P .width)))
 
 -- ---- a line is put
@@ -111,9 +111,9 @@ unfolding putFields
 none-put file at k values e = rw e refl
 
 pub line-put : (n w at : ℕ) {s : Shape} (file first second third reads forward writes : List ℕ) → s ≡ shapeOf n w
-    → first ≡ putFields file at (s .address) reads (s .width)
-    → second ≡ putFields first (at + s .width * s .address) 1 (setting (depth (s .width)) (λ x. getD forward x 0)) (s .switches)
-    → third ≡ putFields second (at + s .width * s .address + s .switches) (s .address) writes (s .width)
+    → first ≡ putFields file at (s .addressing) reads (s .width)
+    → second ≡ putFields first (at + s .width * s .addressing) 1 (setting (depth (s .width)) (λ x. getD forward x 0)) (s .switches)
+    → third ≡ putFields second (at + s .width * s .addressing + s .switches) (s .addressing) writes (s .width)
     → third ≡ putLine n w file at reads forward writes
 unfolding putLine shapeOf addressRow
 line-put n w at file first second third reads forward writes e a b c =

@@ -191,7 +191,7 @@ pub fn put_line(
         (now (reads .entry)) (now (forward .entry)) (now (writes .entry)))
         × (length (now (switches .exit)) ≡ mostSwitches) ⌝ }
 {
-    let read = put_addresses(file, writer, shape.address, reads, shape.width);
+    let read = put_addresses(file, writer, shape.addressing, reads, shape.width);
     let set = put_switches(file, read, shape, forward, back, switches);
-    put_addresses(file, set, shape.address, writes, shape.width)
+    put_addresses(file, set, shape.addressing, writes, shape.width)
 }

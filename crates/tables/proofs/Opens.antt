@@ -61,7 +61,7 @@ module _ {n w a d s : ℕ} (D : Dims n w) (address : a ≡ logUp (n / w)) (deep 
         words = n;
         width = w;
         cycles = n / w;
-        address = a;
+        addressing = a;
         lines = 1 * 2 ^ d % 2 ^ 64;
         switches = s;
         start = 24;
@@ -74,7 +74,7 @@ module _ {n w a d s : ℕ} (D : Dims n w) (address : a ≡ logUp (n / w)) (deep 
 -- a shape is that of its own words and width
 pub shape-same : {s : Shape} → Shaped s → s ≡ shapeOf (s .words) (s .width)
 unfolding shapeOf
-shape-same S = rw (← S .cycles, ← S .address, ← S .lines, ← S .switches, ← S .start, ← S .stride) refl
+shape-same S = rw (← S .cycles, ← S .addressing, ← S .lines, ← S .switches, ← S .start, ← S .stride) refl
 
 -- a shape of n words and width w, read part by part
 module _ {n w : ℕ} {s : Shape} (D : Dims n w) (e : s ≡ shapeOf n w) where
@@ -83,7 +83,7 @@ module _ {n w : ℕ} {s : Shape} (D : Dims n w) (e : s ≡ shapeOf n w) where
   shape-own = rw e (record {
     dims = D;
     cycles = refl;
-    address = refl;
+    addressing = refl;
     lines = refl;
     switches = refl;
     start = refl;

@@ -56,16 +56,16 @@ sources-straight (suc d) file S e N = absurd (omega (arith, S .1, pow-pos d))
 
 -- the parts of line t keep the limits of what reads them, and end far from any overflow
 pub record Fitting (s : Shape) (t : ℕ) : Type 0 where
-  pub address : s .address ≤ 16
+  pub addressing : s .addressing ≤ 16
   pub width : s .width ≤ mostWidth
   pub lines : s .lines ≤ mostWidth
   pub switches : s .switches ≤ mostSwitches
-  pub within : s .start + t * s .stride + s .width * s .address + s .switches < 2 ^ 32
+  pub within : s .start + t * s .stride + s .width * s .addressing + s .switches < 2 ^ 32
 
 pub line-fits : {n w t : ℕ} {s : Shape} → Dims n w → s ≡ shapeOf n w → t < cycles n w → Fitting s t
 unfolding shapeOf lineAt addressRow
 line-fits {n} {w} {t} D e l = rw e (record {
-  address = omega (arith, addressBits-few D);
+  addressing = omega (arith, addressBits-few D);
   width = D .narrow;
   lines = lines-few D;
   switches = switchBits-few D;
@@ -79,9 +79,9 @@ line-sized {n} {w} D e = (depth w, rw e (refl, refl))
 
 -- what was read, where the shape says that the parts stand
 pub line-read : {n w t : ℕ} {s : Shape} {file reads sources writes : List ℕ} → Dims n w → s ≡ shapeOf n w
-    → Addresses file (s .start + t * s .stride) (s .address) (s .width) reads
-    → ((d : ℕ) → Sized (s .lines) (s .switches) d → Sources d file (s .start + t * s .stride + s .width * s .address) sources)
-    → Addresses file (s .start + t * s .stride + s .width * s .address + s .switches) (s .address) (s .width) writes
+    → Addresses file (s .start + t * s .stride) (s .addressing) (s .width) reads
+    → ((d : ℕ) → Sized (s .lines) (s .switches) d → Sources d file (s .start + t * s .stride + s .width * s .addressing) sources)
+    → Addresses file (s .start + t * s .stride + s .width * s .addressing + s .switches) (s .addressing) (s .width) writes
     → Line n w file t reads sources writes
 unfolding shapeOf lineAt addressRow switchBits
 line-read {n} {w} D e reading carrying writing = record {

@@ -38,7 +38,7 @@ shapeOf n w = record {
   words = n;
   width = w;
   cycles = cycles n w;
-  address = addressBits n w;
+  addressing = addressBits n w;
   lines = 2 ^ depth w;
   switches = switchBits w;
   start = headerBits n;
@@ -49,7 +49,7 @@ shapeOf n w = record {
 pub record Shaped (s : Shape) : Type 0 where
   pub dims : Dims (s .words) (s .width)
   pub cycles : s .cycles ≡ cycles (s .words) (s .width)
-  pub address : s .address ≡ addressBits (s .words) (s .width)
+  pub addressing : s .addressing ≡ addressBits (s .words) (s .width)
   pub lines : s .lines ≡ 2 ^ depth (s .width)
   pub switches : s .switches ≡ switchBits (s .width)
   pub start : s .start ≡ headerBits (s .words)

@@ -27,7 +27,7 @@ pub struct Shape {
     // c, the cycles of a frame.
     pub cycles: usize,
     // a, the bits of an address.
-    pub address: usize,
+    pub addressing: usize,
     // B, the switch bits of the network.
     pub switches: usize,
     // The bit where line 0 starts.

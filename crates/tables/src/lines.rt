@@ -106,8 +106,8 @@ pub fn line_at(
         × Line (shape .words) (shape .width) (now (file .entry)) t (now (reads .exit)) (now (standing .exit)) (now (writes .exit)) ⌝ }
 {
     let at = shape.start + t * shape.stride;
-    let row = shape.width * shape.address;
-    addresses(file, at, shape.address, shape.width, reads);
+    let row = shape.width * shape.addressing;
+    addresses(file, at, shape.addressing, shape.width, reads);
     sources(
         file,
         at + row,
@@ -119,7 +119,7 @@ pub fn line_at(
     addresses(
         file,
         at + row + shape.switches,
-        shape.address,
+        shape.addressing,
         shape.width,
         writes,
     );

@@ -33,15 +33,15 @@ pub fn shape_of(words: usize, width: usize) -> Shape
     ensures { λ r. ⌜ r ≡ shapeOf words width ⌝ }
 {
     let cycles = words / width;
-    let address = log_up(cycles);
+    let addressing = log_up(cycles);
     let depth = log_up(width);
     let switches = network::bit_count(depth);
-    let row = width * address;
+    let row = width * addressing;
     Shape {
         words,
         width,
         cycles,
-        address,
+        addressing,
         lines: 1 << depth,
         switches,
         start: HEADER_BITS,

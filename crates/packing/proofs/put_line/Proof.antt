@@ -39,7 +39,7 @@ put-addresses-requires c κs =
 -- where the read addresses end
 read-end : (c : tie.After-put-addresses)
     → let s = start c in
-    positionOf (c .put-addresses .result) ≡ positionOf (s .args .writer) + s .args .shape .width * s .args .shape .address
+    positionOf (c .put-addresses .result) ≡ positionOf (s .args .writer) + s .args .shape .width * s .args .shape .addressing
 read-end c = c .put-addresses .ensures .1
 
 put-switches-requires : tie.Need-put-switches-requires
@@ -55,7 +55,7 @@ put-switches-requires c κs =
 set-end : (c : tie.After-put-switches)
     → let s = start (read c) in
     positionOf (c .put-switches .result)
-    ≡ positionOf (s .args .writer) + s .args .shape .width * s .args .shape .address + s .args .shape .switches
+    ≡ positionOf (s .args .writer) + s .args .shape .width * s .args .shape .addressing + s .args .shape .switches
 set-end c = omega (arith, read-end (read c), c .put-switches .ensures .1)
 
 put-addresses-requires-2 : tie.Need-put-addresses-requires-2
@@ -90,7 +90,7 @@ returns c =
           (switches .ensures .2
           ∙ ap (λ (x : ℕ). putFields (wholeOf (reads .last .0) (reads .result)) x 1 bits (shape .switches)) (read-end (read d)))
           (writes .ensures .2
-          ∙ ap (λ (x : ℕ). putFields (wholeOf (switches .last .0) (switches .result)) x (shape .address) (s .args .writes .now) (shape .width))
+          ∙ ap (λ (x : ℕ). putFields (wholeOf (switches .last .0) (switches .result)) x (shape .addressing) (s .args .writes .now) (shape .width))
           (set-end d)),
       switches .ensures .3,
     )
