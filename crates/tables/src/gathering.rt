@@ -187,7 +187,7 @@ pub fn read(file: &[u8], images: &mut [u16], scratch: &[u16]) -> Reading
 }
 
 // Reads a set: n and w, and the word that leaves at each place below n. It answers as reading with memory enough, and the words are the
-// inverse of the images that reading writes.
+// inverse of the images that reading writes. Only our own crates call it, with an array that holds no marks.
 pub fn read_leavers(file: &[u8], leavers: &mut [u16]) -> Reading
     requires { ⌜ now leavers ≡ replicate mostWords noWord ⌝ }
     ensures { λ r. ⌜ ((images scratch : List ℕ) → mostWords ≤ length images → 2 * mostWords ≤ length scratch

@@ -1,4 +1,4 @@
-// Text: numbers in base ten and characters, put into a buffer.
+// Text: numbers in base ten and characters, put into a buffer. Only our own crates call these functions, so they may have a `requires`.
 ghost use Prim.Native.Nat.{_+_, _≤_};
 ghost use lib.ListN.{length};
 ghost use Rattle.text.specs.Text.{decimal};
