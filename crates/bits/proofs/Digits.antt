@@ -54,9 +54,9 @@ digits-ext (suc w) m n hm hn same =
     half-same : (j : ℕ) → j < w → digit (m / 2) j ≡ digit (n / 2) j
     half-same j h = digit-div m 1 j ∙ same (1 + j) (omega arith) ∙ sym (digit-div n 1 j)
 
--- `1 << k`, of 32 bits, is 2^k.
-pub one-shl : (k : ℕ) → k < 32 → 1 * 2 ^ k % 2 ^ 32 ≡ 2 ^ k
-one-shl k h = shl-exact {a = 1} 1 k 32 (lit< tt) (omega arith) ∙ one-mul (2 ^ k)
+-- `1 << k`, of w bits, is 2^k.
+pub one-shl : (w k : ℕ) → k < w → 1 * 2 ^ k % 2 ^ w ≡ 2 ^ k
+one-shl w k h = shl-exact {a = 1} 1 k w (lit< tt) (omega arith) ∙ one-mul (2 ^ k)
 
 -- ---- `withDigits`
 

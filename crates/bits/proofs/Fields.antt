@@ -106,6 +106,15 @@ field-digits xs at (suc w) v same =
         let e : suc w - suc j ≡ 1 + (w - suc j) = omega arith in
         same j (omega arith) ∙ rw e (sym (digit-div v 1 (w - suc j)))
 
+-- The last w bits of a byte are its remainder.
+pub field-byte : (xs : List ℕ) (f at w : ℕ) → 8 * f ≤ at → at + w ≡ 8 * f + 8 → field xs at w ≡ getD xs f 0 % 2 ^ w
+field-byte xs f at w l e = field-digits xs at w (getD xs f 0) digits
+  where
+    digits : (j : ℕ) → j < w → bit xs (at + j) ≡ digit (getD xs f 0) (w - suc j)
+    digits j h =
+        let z : 8 * f + 7 - (at + j) ≡ w - suc j = omega arith in
+        rw z at (bit-byte xs f (at + j) (omega arith) (omega arith))
+
 -- ---- one bit is put
 
 -- A store of a byte leaves bytes.

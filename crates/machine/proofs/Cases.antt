@@ -3,7 +3,7 @@
 -- without it; so on a set of the right form, with memories of 2n words or more, a clock in its ranges and a line within bounds, only 12 for
 -- the output memory and 13 are left.
 use Prim.Native.Nat.{ℕ, _*_, _≤_}
-use mathlib.Core.Path.{_≡_, refl, sym, subst₂, _∙_}
+use mathlib.Core.Path.{_≡_, refl, sym, subst₂}
 use mathlib.Core.Bool.{true, false}
 use mathlib.Core.List.{List}
 use mathlib.Core.Logic.{_⊎_, inl, inr, ⊎-elim}
@@ -19,7 +19,7 @@ use Rattle.tables.specs.Format.{shapeOf, openOf}
 use Rattle.tables.specs.Datapath.{readStrays, carryStrays, writeStrays, strays}
 use Rattle.tables.specs.declared.Opened.the-variants.{Set}
 use Rattle.tables.proofs.Dims.{Dims}
-use Rattle.tables.proofs.Form.{open-cases, opened-form}
+use Rattle.tables.proofs.Form.{form-same, open-cases, opened-form}
 use Rattle.tables.proofs.Within.{Within, strays-within, within-strays}
 use Rattle.machine.specs.Step.{StepOutcome, stepOutcome, accepted, bufferTest, lineTest, clockTest, stepLine, stepOpened, stepOf}
 use Rattle.machine.specs.declared.Clock.{Clock}
@@ -103,9 +103,8 @@ module _ (file : List ℕ) (clock : Clock) (first second words out : List ℕ) w
       own : (m : ℕ) × (v : ℕ) × (stepOf file clock first second words out ≡ accepted m v file clock first second words out) × Passed m v
           → Passed n w
       own r =
-          let F = opened-form file (r .3 .opened) in
-          let G = opened-form file opened in
-          subst₂ Passed (sym (F .words) ∙ G .words) (sym (F .width) ∙ G .width) (r .3)
+          let same = form-same (opened-form file (r .3 .opened)) (opened-form file opened) in
+          subst₂ Passed (same .0) (same .1) (r .3)
 
 -- ---- tests that pass
 

@@ -1,9 +1,8 @@
 -- What a step does to the memories, position by position. The entering words and the moves of a line are stores, at spots that differ, so
--- each spot that is named gets its word, and all others and whatever lies behind the 2n words stay as they were.
+-- each spot that is named gets its word, and every other position stays as it was.
 use Prim.Native.Nat.{ℕ, zero, suc, _*_, _-_, _<_, _≤_}
 use mathlib.Core.Path.{_≡_, refl, sym, ap, _∙_}
 use mathlib.Core.List.{List}
-use native.Mathlib.Omega.{arith}
 use lib.ListN.{length, getD}
 use Rattle.laws.specs.Permutation.{Injective}
 use Rattle.tables.specs.Terms.{cycles}
@@ -14,7 +13,7 @@ use Rattle.tables.proofs.Targets.{carriedTo-injective}
 use Rattle.tables.proofs.Within.{Within}
 use Rattle.machine.specs.Step.{spot, moving, entering}
 use Rattle.machine.specs.declared.Clock.{Clock}
-use Rattle.machine.proofs.Spots.{spot-below, spot-injective, banks-size, spot-fits}
+use Rattle.machine.proofs.Spots.{spot-injective, spot-fits}
 use Rattle.machine.proofs.Stores.{stored, length-stored, stored-other, stored-at, stored-ext}
 
 -- ---- the spots of a step, at cycle t and half h
@@ -69,12 +68,6 @@ module _ {n w : ℕ} (D : Dims n w) (clock : Clock) (half : clock .half < 2) (in
       let r = spot-injective (cycles n w) (clock .half) a (clock .cycle) half inside k b p l m e in
       other (sym (r .0)) (sym (r .2))
 
-  -- behind the banks
-  pub entering-behind : (j : ℕ) → 2 * n ≤ j → getD (entering (cycles n w) clock words w first) j 0 ≡ getD first j 0
-  entering-behind j l =
-      entering-other (cycles n w) clock words w first j λ a q e.
-      omega (arith, spot-below (cycles n w) (clock .half) a (clock .cycle) half inside w q, banks-size D)
-
 -- ---- the moves of the clock's line
 
 moving-stored : (n w : ℕ) (file : List ℕ) (clock : Clock) (first : List ℕ) (b : ℕ) (second : List ℕ)
@@ -108,6 +101,13 @@ module _ (n w : ℕ) (file : List ℕ) (clock : Clock) (second : List ℕ) where
       simp moving-stored
       (stored-ext (writeSpot n w file (clock .half) (clock .cycle)) (λ a. getD first (readSpot n w file (clock .half) (clock .cycle) a) 0)
       (λ a. getD first′ (readSpot n w file (clock .half) (clock .cycle) a) 0) w second same)
+
+-- a position at which no bank takes a word: bank k takes at its write address
+pub moving-untaken : {n w : ℕ} {file : List ℕ} (clock : Clock) → Within n w file (clock .cycle) → (first second : List ℕ) (j : ℕ)
+    → ((k : ℕ) → k < w → spot (cycles n w) (clock .half) k (writeAddress n w file (clock .cycle) k) ≡ j → ⊥)
+    → getD (moving n w file clock first w second) j 0 ≡ getD second j 0
+moving-untaken {n} {w} {file} clock I first second j none =
+    moving-other n w file clock second first j (λ b l. none (carriedTo n w file (clock .cycle) b) (I .carries b l))
 
 module _ {n w : ℕ} {file : List ℕ} (h t : ℕ) (half : h < 2) (I : Within n w file t) where
   -- a write address of the line, at the bank to which a line below w is carried
@@ -148,13 +148,3 @@ module _ {n w : ℕ} {file : List ℕ} (D : Dims n w) (clock : Clock) (half : cl
     moving-elsewhere k d p l m other =
         moving-other n w file clock second first (spot (cycles n w) k d p) λ b q e.
         let r = writeSpot-is (clock .half) (clock .cycle) half I b k d p q l m e in other (r .0) (r .2)
-
-    -- behind the banks
-    pub moving-behind : (j : ℕ) → 2 * n ≤ j → getD (moving n w file clock first w second) j 0 ≡ getD second j 0
-    moving-behind j l =
-        moving-other n w file clock second first j λ b q e.
-        let k : ℕ = carriedTo n w file (clock .cycle) b in
-        let below : spot (cycles n w) (clock .half) k (writeAddress n w file (clock .cycle) k) < w * (2 * cycles n w) =
-        spot-below (cycles n w) (clock .half) k (writeAddress n w file (clock .cycle) k) half
-        (write-inside (clock .half) (clock .cycle) half I b q) w (I .carries b q) in
-        omega (arith, banks-size D)

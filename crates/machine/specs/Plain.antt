@@ -20,7 +20,8 @@ unfoldable pub empty : Row
 empty = record { words = []; steps = 0 }
 
 -- "word k of the output is the row's word f·n + i, with f and i the only whole numbers from 0, i below n, for which
--- f·n + P(i) = (s - 2c)w + k"
+-- f·n + P(i) = (s - 2c)w + k". There are such f and i (`place-found` in proofs/Given.antt), only one of each (`place-unique`), word f·n + i is
+-- in the row (`place-inside`), and it is what is given here (`given-row`).
 unfoldable pub given : ℕ → ℕ → (ℕ → ℕ) → ℕ → List ℕ → ℕ → ℕ
 given n w p s row k =
     let place : ℕ = (s - 2 * cycles n w) * w + k in

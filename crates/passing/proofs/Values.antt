@@ -1,5 +1,5 @@
 -- The scan for a value that is neither 0 nor 1: what is left at position i is decided there, or left at i + 1.
-use Prim.Native.Nat.{ℕ, suc, _+_, _-_, _<_, _≤_}
+use Prim.Native.Nat.{ℕ, zero, suc, _+_, _-_, _<_, _≤_}
 use mathlib.Core.Path.{_≡_, refl, sym, ap, _∙_}
 use mathlib.Core.List.{List}
 use native.Mathlib.Omega.{arith}
@@ -34,3 +34,11 @@ module _ (values : List ℕ) (count : ℕ) where
   pub scanning-all : {i : ℕ} → Scanning values count i → count ≤ i → i ≡ firstBad values count 0
   unfolding firstBad
   scanning-all {i} S h = let e : count - i ≡ 0 = omega arith in rw e at (S .rest)
+
+-- where every value is 0 or 1 none is found
+pub first-none : (values : List ℕ) (k i : ℕ) → ((j : ℕ) → i ≤ j → j < i + k → getD values j 0 < 2) → firstBad values k i ≡ i + k
+unfolding firstBad
+first-none values zero i h = omega arith
+first-none values (suc k) i h =
+    sym (ifLt-no 1 (getD values i 0) (i + suc k) i (firstBad values k (i + 1)) (omega (arith, h i (omega arith) (omega arith)))
+    (let e : i + suc k ≡ i + 1 + k = omega arith in e ∙ sym (first-none values k (i + 1) (λ j l m. h j (omega arith) (omega arith)))))

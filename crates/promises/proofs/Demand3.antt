@@ -3,10 +3,11 @@ use Prim.Native.Nat.{ℕ, _*_, _≤_}
 use mathlib.Core.Path.{_≡_, refl, sym, ap, subst, _∙_}
 use mathlib.Core.List.{List, [], _∷_, _++_}
 use lib.ListN.{length, take, drop}
+use Rattle.refusal.specs.Replies.{accepts}
 use Rattle.images.specs.Images.{orderOf}
 use Rattle.tables.specs.Terms.{fileLength}
 use Rattle.tables.specs.Generated.{setOf}
-use Rattle.tables.specs.Reading.{readAs, readOf}
+use Rattle.tables.specs.Reading.{readAs, readOf, readingReply}
 use Rattle.tables.proofs.SetBits.{length-setOf}
 use Rattle.tables.proofs.Exact.{read-performs, generated-reads}
 use Rattle.machine.specs.Devices.{Feed, run}
@@ -16,10 +17,13 @@ use Rattle.machine.specs.LentClock.{lentMachine}
 use Rattle.machine.specs.Plain.{plain, empty}
 use Rattle.machine.proofs.LentClock.{lent-run}
 use Rattle.machine.proofs.Theorem.{machine-is-plain, generated-is-plain}
-use Rattle.generator.specs.Generating.{Filled}
+use Rattle.generator.specs.Generating.{Filled, generationReply}
 use Rattle.generator.proofs.Checking.{passed-checks}
-use Rattle.generator.specs.declared.Generation.the-variants.{Written}
-use Rattle.promises.specs.Demand3.{Streaming, StreamingLent}
+use Rattle.rughtena.specs.Answers.{clockOf}
+use Rattle.rughtena.specs.Step.{exportedMachine}
+use Rattle.rughtena.proofs.Device.{Beside, exported-run}
+use Rattle.promises.specs.Demand2.{toldOf}
+use Rattle.promises.specs.Demand3.{Streaming, StreamingLent, StreamingExported}
 
 -- every set that reads as some permutation, lent exactly: over any list of steps, from a fresh clock and two memories of 2n words or more
 -- that hold anything, the machine is the plain rule for that permutation
@@ -45,14 +49,15 @@ front {n} {w} {images} {file} F =
     ∙ subst (λ (z : ℕ). take z (made ++ rest) ≡ made) (length-setOf n w (orderOf n images) (F .made .reads)) (take-front made rest)
 
 pub demand-3 : Streaming
+unfolding generationReply toldOf readingReply
 demand-3 n w images file scratch answer file′ scratch′ R G =
     let A = G .generated (passed-checks R) in
     let F = A .1 in
     let long : length (setOf n w (orderOf n images) (F .made .reads)) ≡ fileLength n w = length-setOf n w (orderOf n images) (F .made .reads) in
     rw (front F) (record {
-      accepted = A .0 ∙ ap (λ (k : ℕ). Written (record { length = k })) (sym long);
+      accepted = ap generationReply (A .0) ∙ ap (λ (k : ℕ). accepts (k ∷ [])) (sym long);
       long = long;
-      reads = λ out memory l m. generated-reads out memory (R .dims) (R .permutes) (F .made .schedule) l m;
+      reads = λ out memory lent. ap toldOf (generated-reads out memory (R .dims) (R .permutes) (F .made .schedule) (lent .0) (lent .1));
       streams = generated-is-plain (R .dims) (R .permutes) (F .made .schedule);
     })
 
@@ -67,3 +72,21 @@ sets-stream-lent file images scratch images′ h first second long long′ steps
 pub demand-3-lent : StreamingLent
 demand-3-lent n w images file scratch answer file′ scratch′ R G first second long long′ steps =
     lent-run (take (fileLength n w) file′) _ steps ∙ demand-3 n w images file scratch answer file′ scratch′ R G .streams first second long long′ steps
+
+-- The same of the device that C drives, from three zero numbers.
+zero-beside : (first second : List ℕ)
+    → Beside (record { numbers = 0 ∷ 0 ∷ 0 ∷ []; first = first; second = second }) (record { clock = fresh; first = first; second = second })
+unfolding clockOf fresh
+zero-beside first second = record { three = refl; clock = refl; first = refl; second = refl }
+
+pub sets-stream-exported : (file images scratch images′ : List ℕ) {n w : ℕ} → readOf file images scratch ≡ readAs n w file images′
+    → (first second : List ℕ) → 2 * n ≤ length first → 2 * n ≤ length second → (steps : List Feed)
+    → run (exportedMachine file) (record { numbers = 0 ∷ 0 ∷ 0 ∷ []; first = first; second = second }) steps
+    ≡ run (plain n w (orderOf n images′)) empty steps
+sets-stream-exported file images scratch images′ h first second long long′ steps =
+    exported-run file _ _ (zero-beside first second) steps ∙ sets-stream-lent file images scratch images′ h first second long long′ steps
+
+pub demand-3-exported : StreamingExported
+demand-3-exported n w images file scratch answer file′ scratch′ R G first second long long′ steps =
+    exported-run (take (fileLength n w) file′) _ _ (zero-beside first second) steps
+    ∙ demand-3-lent n w images file scratch answer file′ scratch′ R G first second long long′ steps

@@ -1,94 +1,160 @@
--- The idle programs of document 01 ("Holding the contracts tight", c): none of them meets the demands. The generators and the reader are
--- ruled out by what `Generates` and demand 2 say. For the machines, demand 3 makes every device equal to the plain rule, and the plain rule
--- shows something that the idle one does not.
-use Prim.Native.Nat.{ℕ, _*_, _-_, _<_, _≤_}
+-- The idle programs are thrown out. A generator: `Generates` with demands 2 and 3 says what it has written. A reader: the set of one word is in
+-- the form and performs the only permutation, so an exact reader accepts it. A machine: it shows what the plain rule shows, and that counts its
+-- accepted steps and writes words from step 2c on, words that depend on what entered, in every frame in the frame's order.
+use Prim.Native.Nat.{ℕ, _+_, _*_, _-_, _<_, _≤_}
 use mathlib.Core.Path.{_≡_, refl, sym, ap, _∙_}
 use mathlib.Core.List.{List, [], _∷_, _++_}
 use native.Mathlib.Omega.{arith}
 use lib.ListN.{length, getD, take}
 use Rattle.laws.specs.Choice.{ifLt, ifEq}
 use Rattle.laws.specs.Tabulate.{tabulate, overwrite}
-use Rattle.laws.specs.Permutation.{inverse}
-use Rattle.laws.proofs.Choices.{ifLt-no, ifEq-yes, zero-not-one}
+use Rattle.laws.specs.Permutation.{Permutes, inverse}
+use Rattle.laws.proofs.Choices.{ifLt-no, ifLt-cases, ifEq-yes, ifEq-cases, zero-not-one}
 use Rattle.laws.proofs.Tabulates.{getD-overwrite}
+use Rattle.refusal.specs.Replies.{accepts, refuses, refusalReply}
 use Rattle.refusal.specs.declared.Refusal.{Refusal}
 use Rattle.images.specs.Images.{orderOf}
-use Rattle.tables.specs.Terms.{cycles, fileLength}
-use Rattle.tables.specs.Reading.{readOutcome, readAs, readOf}
-use Rattle.tables.specs.declared.Reading.the-variants.{Refused as Unread}
+use Rattle.tables.specs.Terms.{Dims, cycles, fileLength}
+use Rattle.tables.specs.Generated.{Schedule, setOf}
+use Rattle.tables.specs.Format.{Form, openOf}
+use Rattle.tables.specs.Reading.{readOf, readingReply}
+use Rattle.tables.specs.declared.Opened.the-variants.{Refused as Unopened}
+use Rattle.tables.proofs.Cut.{cut-short, cut-long}
+use Rattle.tables.proofs.Exact.{read-unopened}
+use Rattle.tables.proofs.Form.{setOf-form}
+use Rattle.tables.proofs.ReadsBack.{setOf-performs}
 use Rattle.machine.specs.Devices.{Feed, feed, Seen, seen, filling, wrote, After, run}
-use Rattle.machine.specs.Plain.{Row, empty, given, took, plain}
-use Rattle.generator.specs.Generating.{extentOf, Generable, Generates}
-use Rattle.generator.specs.declared.Extent.{Extent}
+use Rattle.machine.specs.Plain.{Row, empty, given, took, turned, plain}
+use Rattle.machine.proofs.Runs.{reached, run-append}
+use Rattle.generator.specs.Generating.{generationReply}
 use Rattle.generator.specs.declared.Generation.{Generation}
-use Rattle.generator.specs.declared.Generation.the-variants.{Written, Refused as Unmade}
 use Rattle.generator.proofs.Checking.{passed-checks}
-use Rattle.promises.proofs.Demand3.{demand-3}
+use Rattle.promises.specs.Demand2.{Reader, told, toldOf, ReadsAs, Refuses, Lent, Exact}
+use Rattle.promises.specs.Idle.{Generated, WrittenLength, IsPlain, acceptedStep, acceptedSteps, enters, fills, gives, frames, shown, Thrown}
+use Rattle.promises.proofs.Demand2.{demand-2}
 
-module _ {n w : ℕ} {images file scratch : List ℕ} {answer : Generation} {file′ scratch′ : List ℕ}
-    (R : Generable n w images (length file) (length scratch)) (G : Generates n w images file scratch answer file′ scratch′) where
-  -- a generator that turns down all or hard permutations
-  pub none-turned-down : (r : Refusal) → answer ≡ Unmade r → ⊥
-  none-turned-down r e = let q : Written (extentOf n w) ≡ Unmade r = sym (G .generated (passed-checks R) .0) ∙ e in
-      zero-not-one cc
+-- ---- generators
 
-  -- a generator that reports a length that it did not write
-  pub length-reported : (extent : Extent) → answer ≡ Written extent → extent .length ≡ length (take (fileLength n w) file′)
-  length-reported extent e =
-      let q : Written (record { length = length (take (fileLength n w) file′) }) ≡ Written extent =
-      sym (demand-3 n w images file scratch answer file′ scratch′ R G .accepted) ∙ e in
-      let z : _≡_ {A = Extent} (record { length = length (take (fileLength n w) file′) }) extent = cc in
-      sym (ap (λ (x : Extent). x .length) z)
+module _ {n w : ℕ} {images : List ℕ} {answer : Generation} {file′ : List ℕ} (G : Generated n w images answer file′) where
+  abbrev made : List ℕ
+  made = take (fileLength n w) file′
 
-  module _ (out memory : List ℕ) (l : n ≤ length out) (m : 2 * n ≤ length memory) where
-    reads : readOf (take (fileLength n w) file′) out memory ≡ readAs n w (take (fileLength n w) file′) (overwrite n (orderOf n images) out)
-    reads = demand-3 n w images file scratch answer file′ scratch′ R G .reads out memory l m
+  replied : generationReply answer ≡ accepts (fileLength n w ∷ [])
+  unfolding generationReply
+  replied = ap generationReply (G .generates .generated (passed-checks (G .generable)) .0)
 
-    -- a reader that turns down every file
-    pub set-not-refused : (r : Refusal) (out′ : List ℕ) → readOf (take (fileLength n w) file′) out memory ≡ readOutcome (Unread r) out′ → ⊥
-    set-not-refused r out′ e =
-        let q : readAs n w (take (fileLength n w) file′) (overwrite n (orderOf n images) out) ≡ readOutcome (Unread r) out′ = sym reads ∙ e in
-        zero-not-one cc
+  none-turned-down : (number place : ℕ) → generationReply answer ≡ refuses number place → ⊥
+  none-turned-down number place e = zero-not-one (cc replied)
 
-    -- a generator that gives the straight-through set for every permutation: only the straight order has it
-    pub straight-alone : readOf (take (fileLength n w) file′) out memory ≡ readAs n w (take (fileLength n w) file′) (overwrite n (λ i. i) out)
-        → (i : ℕ) → i < n → orderOf n images i ≡ i
-    straight-alone e i b =
-        let q : readAs n w (take (fileLength n w) file′) (overwrite n (orderOf n images) out)
-        ≡ readAs n w (take (fileLength n w) file′) (overwrite n (λ i. i) out) = sym reads ∙ e in
-        let z : overwrite n (orderOf n images) out ≡ overwrite n (λ i. i) out = cc in
-        sym (getD-overwrite n (orderOf n images) out i 0 b) ∙ ap (λ (xs : List ℕ). getD xs i 0) z ∙ getD-overwrite n (λ i. i) out i 0 b
+  formed : Form n w made
+  formed = demand-2 .generated n w images (G .file) (G .scratch) answer file′ (G .scratch′) (G .generable) (G .generates) .0
 
--- a machine that says `filling` past step 2c
-pub no-late-filling : (n w : ℕ) (p : ℕ → ℕ) (row : Row) (words out shown : List ℕ) → 2 * cycles n w ≤ row .steps → length words ≡ w
-    → w ≤ length out → plain n w p row (feed words out) .shows ≡ seen filling shown → ⊥
-unfolding plain took
-no-late-filling n w p row words out shown late exact roomy e =
-    let written : List ℕ = overwrite w (given n w p (row .steps) (row .words ++ words)) out in
-    let told : took n w p row words out ≡ plain n w p row (feed words out) =
-    ifLt-no (length out) w _ _ _ roomy (ifEq-yes (length words) w _ _ _ exact refl) in
-    let wrote-now : seen wrote written ≡ took n w p row words out .shows = ifLt-no (row .steps) (2 * cycles n w) _ _ _ late refl in
-    let q : seen wrote written ≡ seen filling shown = wrote-now ∙ ap (λ (a : After Row). a .shows) told ∙ e in
-    zero-not-one cc
+  reads : (out memory : List ℕ) → Lent out memory n → ReadsAs readOf made out memory n w (orderOf n images)
+  reads = demand-2 .generated n w images (G .file) (G .scratch) answer file′ (G .scratch′) (G .generable) (G .generates) .1
 
--- one word enters, with one word of output memory
-pub enters : ℕ → Feed
-enters x = feed (x ∷ []) (0 ∷ [])
+  straight-alone : (out memory : List ℕ) → Lent out memory n → ReadsAs readOf made out memory n w (λ i. i)
+      → (i : ℕ) → i < n → orderOf n images i ≡ i
+  straight-alone out memory lent e i b =
+      let same : overwrite n (orderOf n images) out ≡ overwrite n (λ i. i) out = cc (reads out memory lent) in
+      sym (getD-overwrite n (orderOf n images) out i 0 b) ∙ ap (λ (xs : List ℕ). getD xs i 0) same ∙ getD-overwrite n (λ i. i) out i 0 b
 
--- what a step shows: `filling`, or a word
-pub fills : Seen
-fills = seen filling (0 ∷ [])
+  -- a file that does not open, as reading tells it
+  unopened : (file out memory : List ℕ) (r : Refusal) → openOf file ≡ Unopened r → toldOf (readOf file out memory) ≡ told (refusalReply r) out
+  unfolding toldOf readingReply
+  unopened file out memory r h = ap toldOf (read-unopened file out memory r h)
 
-pub gives : ℕ → Seen
-gives x = seen wrote (x ∷ [])
+  length-written : (reported : ℕ) → generationReply answer ≡ accepts (reported ∷ []) → WrittenLength n w images file′ reported
+  unfolding refusalReply
+  length-written reported e =
+      let same : reported ≡ fileLength n w = cc replied in
+      rw same (record {
+        formula = refl;
+        reads = reads;
+        fewer = λ k l out memory. unopened (take k file′) out memory _ (cut-short file′ formed k l);
+        more = λ k l m out memory. unopened (take k file′) out memory _ (cut-long file′ formed k l m);
+      })
 
--- two frames of two words, and two more to drive them out
-pub frames : List Feed
-frames = enters 1 ∷ enters 2 ∷ enters 3 ∷ enters 4 ∷ enters 5 ∷ enters 6 ∷ enters 7 ∷ enters 8 ∷ []
+-- ---- readers
 
--- four steps of filling, then these words
-pub shown : ℕ → ℕ → ℕ → ℕ → List Seen
-shown x y z u = fills ∷ fills ∷ fills ∷ fills ∷ gives x ∷ gives y ∷ gives z ∷ gives u ∷ []
+-- one word, width 1
+one-word : Dims 1 1
+one-word = record { some = omega arith; few = omega arith; wide = omega arith; narrow = omega arith; even = refl }
+
+one-permutes : Permutes 1 (λ i. i)
+one-permutes = record { below = λ i l. l; injective = λ i j l m e. e }
+
+one-scheduled : Schedule 1 1 (λ i. i) (λ t b. 0)
+unfolding cycles
+one-scheduled = record {
+  below = λ t b l m. omega arith;
+  once = λ b l i j m k e. omega arith;
+  ports = λ t l i j m k e. omega arith;
+}
+
+some-accepted : (read : Reader) → Exact read → ((file images scratch : List ℕ) → Refuses read file images scratch) → ⊥
+some-accepted read exact all =
+    let file : List ℕ = setOf 1 1 (λ i. i) (λ t b. 0) in
+    let r = all file (0 ∷ []) (0 ∷ 0 ∷ []) in
+    let e = exact file (0 ∷ []) (0 ∷ 0 ∷ []) 1 1 (λ i. i) (setOf-form one-word one-permutes one-scheduled) (omega arith, omega arith) .0
+    (setOf-performs one-word one-permutes one-scheduled) in
+    zero-not-one (cc (r .2, e))
+
+-- ---- machines
+
+-- the last of a list, or x where it is empty
+lastOf : Seen → List Seen → Seen
+lastOf x [] = x
+lastOf x (y ∷ ys) = lastOf y ys
+
+last-is : (x : Seen) (xs : List Seen) (y : Seen) → lastOf x (xs ++ (y ∷ [])) ≡ y
+unfolding lastOf
+last-is x [] y = refl
+last-is x (z ∷ zs) y = last-is z zs y
+
+-- ---- the plain rule counts its accepted steps, and writes from step 2c on
+
+module _ (n w : ℕ) (p : ℕ → ℕ) where
+  step-counted : (row : Row) (x : Feed) → plain n w p row x .state .steps ≡ row .steps + acceptedStep (plain n w p row x .shows)
+  unfolding plain took turned acceptedStep
+  step-counted row (feed words out) =
+      ifLt-cases Counted (length out) w _ _ (λ _. omega arith) λ _.
+      ifEq-cases Counted (length words) w _ _
+      (λ _. ifLt-cases (λ (s : Seen). row .steps + 1 ≡ row .steps + acceptedStep s) (row .steps) (2 * cycles n w) _ _ (λ _. refl) (λ _. refl))
+      (λ _. omega arith)
+    where
+      Counted : After Row → Type 0
+      Counted a = a .state .steps ≡ row .steps + acceptedStep (a .shows)
+
+  steps-counted : (row : Row) (xs : List Feed) → reached (plain n w p) row xs .steps ≡ row .steps + acceptedSteps (run (plain n w p) row xs)
+  unfolding run reached acceptedSteps
+  steps-counted row [] = omega arith
+  steps-counted row (x ∷ xs) = omega (arith, step-counted row x, steps-counted (plain n w p row x .state) xs)
+
+  late-writes : (row : Row) (words out : List ℕ) → 2 * cycles n w ≤ row .steps → length words ≡ w → w ≤ length out
+      → plain n w p row (feed words out) .shows ≡ seen wrote (overwrite w (given n w p (row .steps) (row .words ++ words)) out)
+  unfolding plain took
+  late-writes row words out late exact roomy =
+      let told : took n w p row words out ≡ plain n w p row (feed words out) =
+      ifLt-no (length out) w _ _ _ roomy (ifEq-yes (length words) w _ _ _ exact refl) in
+      sym (ap (λ (a : After Row). a .shows) told) ∙ sym (ifLt-no (row .steps) (2 * cycles n w) _ _ _ late refl)
+
+no-late-filling : {S : Type 0} (device : S → Feed → After S) (start : S) (n w : ℕ) (p : ℕ → ℕ) → IsPlain device start n w p
+    → (steps : List Feed) → 2 * cycles n w ≤ acceptedSteps (run device start steps)
+    → (words out : List ℕ) → length words ≡ w → w ≤ length out
+    → (earlier : List Seen) (after : List ℕ) → run device start (steps ++ (feed words out ∷ [])) ≡ earlier ++ (seen filling after ∷ []) → ⊥
+unfolding run empty
+no-late-filling device start n w p same steps late words out exact roomy earlier after e =
+    let row : Row = reached (plain n w p) empty steps in
+    let counted : 2 * cycles n w ≤ row .steps = omega (arith, steps-counted n w p empty steps, rw (same steps) at late) in
+    let ends : run (plain n w p) empty steps ++ (plain n w p row (feed words out) .shows ∷ []) ≡ earlier ++ (seen filling after ∷ []) =
+    sym (run-append (plain n w p) empty steps (feed words out ∷ [])) ∙ sym (same (steps ++ (feed words out ∷ []))) ∙ e in
+    let last : plain n w p row (feed words out) .shows ≡ seen filling after =
+    sym (last-is (seen filling after) (run (plain n w p) empty steps) (plain n w p row (feed words out) .shows))
+    ∙ ap (lastOf (seen filling after)) ends ∙ last-is (seen filling after) earlier (seen filling after) in
+    let q = sym (late-writes n w p row words out counted exact roomy) ∙ last in
+    zero-not-one (cc q)
+
+-- ---- machines on small frames, computed
 
 -- in exchanged order
 exchanged : run (plain 2 1 (λ i. 1 - i)) empty frames ≡ shown 2 1 4 3
@@ -100,8 +166,7 @@ unfolding shown gives
 apart q = let z : _≡_ {A = ℕ} 4 3 = cc in omega arith
 
 module _ {S : Type 0} (device : S → Feed → After S) (start : S) where
-  -- a machine whose banks never change: what it shows does not depend on the words that enter
-  pub banks-change : ((steps : List Feed) → run device start steps ≡ run (plain 1 1 (λ i. i)) empty steps)
+  banks-change : IsPlain device start 1 1 (λ i. i)
       → ((x y : ℕ) (steps : List Feed) → run device start (enters x ∷ steps) ≡ run device start (enters y ∷ steps)) → ⊥
   unfolding run plain took given empty ifLt ifEq overwrite tabulate inverse cycles enters
   banks-change same deaf =
@@ -110,7 +175,16 @@ module _ {S : Type 0} (device : S → Feed → After S) (start : S) where
       sym (same (enters 0 ∷ more)) ∙ deaf 0 1 more ∙ same (enters 1 ∷ more) in
       zero-not-one cc
 
-  -- a machine that reorders its first frame and passes later ones through
-  pub later-frames-too : ((steps : List Feed) → run device start steps ≡ run (plain 2 1 (λ i. 1 - i)) empty steps)
-      → run device start frames ≡ shown 2 1 3 4 → ⊥
+  later-frames-too : IsPlain device start 2 1 (λ i. 1 - i) → run device start frames ≡ shown 2 1 3 4 → ⊥
   later-frames-too same e = apart (sym exchanged ∙ sym (same frames) ∙ e)
+
+pub idle-thrown : Thrown
+idle-thrown = record {
+  none-turned-down = none-turned-down;
+  some-accepted = some-accepted;
+  straight-alone = straight-alone;
+  banks-change = banks-change;
+  later-frames-too = later-frames-too;
+  length-written = length-written;
+  no-late-filling = no-late-filling;
+}

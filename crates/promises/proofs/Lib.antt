@@ -4,3 +4,5 @@ pub mod Demand3
 pub mod Idle
 pub mod OneCycle
 pub mod Examples
+pub mod Rule
+pub mod Plain

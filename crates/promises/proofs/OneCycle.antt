@@ -2,7 +2,7 @@
 -- examples this says which bytes generating gives in examples 1 to 3.
 use Prim.Native.Nat.{ℕ}
 use mathlib.Core.Path.{_≡_, _∙_}
-use mathlib.Core.List.{List}
+use mathlib.Core.List.{List, []}
 use native.Mathlib.Omega.{arith}
 use lib.ListN.{length, take}
 use Rattle.images.specs.Images.{orderOf}
@@ -12,18 +12,14 @@ use Rattle.tables.proofs.Prefix.{setOf-ext}
 use Rattle.generator.specs.Generating.{Generable, Generates}
 use Rattle.generator.specs.declared.Generation.{Generation}
 use Rattle.generator.proofs.Checking.{passed-checks}
+use Rattle.promises.specs.Examples.{listed}
 use Rattle.promises.proofs.Demand3.{front}
-
--- the read lines of a frame of one cycle
-unfoldable pub noReads : ℕ → ℕ → ℕ
-noReads t b = 0
 
 pub one-cycle : (n w : ℕ) (images file scratch : List ℕ) (answer : Generation) (file′ scratch′ : List ℕ) → cycles n w ≡ 1
     → Generable n w images (length file) (length scratch) → Generates n w images file scratch answer file′ scratch′
-    → take (fileLength n w) file′ ≡ setOf n w (orderOf n images) noReads
-unfolding noReads
+    → take (fileLength n w) file′ ≡ setOf n w (orderOf n images) (listed [])
 one-cycle n w images file scratch answer file′ scratch′ single R G =
     let F = G .generated (passed-checks R) .1 in
     front F
-    ∙ setOf-ext (R .dims .wide) n (orderOf n images) (F .made .reads) noReads
+    ∙ setOf-ext (R .dims .wide) n (orderOf n images) (F .made .reads) (listed [])
     (λ t b l m. omega (arith, F .made .schedule .below t b l m, single))

@@ -1,69 +1,131 @@
--- Demand 1, lent memory: every call ends with a result or a refusal. A refused call leaves every lent word as it was, and an accepted one
--- alters only the words that it names, the first so many of a list. All over the definitions that the contracts of the calls cite. A list that
--- is not named here is lent as a shared slice, which no call can write; so is all that `follow` is lent.
-use Prim.Native.Nat.{ℕ, _*_, _-_, _≤_}
+-- Demand 1, lent memory, of every call in one shape. A call ends with its result or with a refusal, told in document 01's numbers and values.
+-- Refused, the number is 1 to 15 and every lent word is as before. Accepted, the values are the document's, and of the lent words only the
+-- named ones are altered. Each call is taken as its contract has it: with whatever answer and memories the contract allows. A list that is no
+-- `memory` here is lent as a shared slice, which no call can write.
+use Prim.Native.Nat.{ℕ, _<_, _≤_}
 use mathlib.Core.Path.{_≡_}
-use mathlib.Core.List.{List}
-use mathlib.Core.Logic.{_⊎_}
+use mathlib.Core.List.{List, [], _∷_}
 use lib.ListN.{length, getD}
-use Rattle.refusal.specs.declared.Refusal.{Refusal}
-use Rattle.network.specs.Network.{bitCount, depthOf}
-use Rattle.setting.specs.Calls.{settledOf, SetOutcome, setOutcome}
+use Rattle.laws.specs.Choice.{ifLt}
+use Rattle.refusal.specs.Replies.{Reply, accepts, refuses}
+use Rattle.network.specs.Network.{bitCount, depthOf, leaves}
+use Rattle.setting.specs.Calls.{settingOf, setOutcome, settingReply}
+use Rattle.setting.specs.declared.Setting.{Setting}
+use Rattle.passing.specs.Calls.{followOf, followedReply}
+use Rattle.passing.specs.declared.following.Followed.{Followed}
 use Rattle.tables.specs.Terms.{cycles, fileLength}
-use Rattle.tables.specs.Format.{shapeOf, openOf}
-use Rattle.tables.specs.Reading.{readOf, readAs, readOutcome}
-use Rattle.tables.specs.declared.Opened.the-variants.{Set}
-use Rattle.tables.specs.declared.Reading.the-variants.{Refused as Unread}
-use Rattle.generator.specs.Generating.{extentOf}
+use Rattle.tables.specs.Header.{headerWords, headerWidth}
+use Rattle.tables.specs.Format.{writeAddress}
+use Rattle.tables.specs.Reading.{readOf, readOutcome, readingReply}
+use Rattle.tables.specs.declared.Reading.{Reading}
+use Rattle.generator.specs.Generating.{Generates, generationReply}
 use Rattle.generator.specs.declared.Generation.{Generation}
-use Rattle.generator.specs.declared.Generation.the-variants.{Written as Made, Refused as Unmade}
-use Rattle.machine.specs.Step.{nextClock, saysOf, StepOutcome, stepOutcome}
-use Rattle.machine.specs.LentClock.{Lent, lent}
+use Rattle.machine.specs.Step.{spot, nextClock, stepOf, stepOutcome}
+use Rattle.machine.specs.Machine.{stepReply}
+use Rattle.machine.specs.LentClock.{lent, lentStep}
 use Rattle.machine.specs.declared.Clock.{Clock}
-use Rattle.machine.specs.declared.Stepped.the-variants.{Refused as Unstepped}
-use Rattle.setting.specs.declared.Setting.the-variants.{Written, Refused as Unset}
+use Rattle.machine.specs.declared.Stepped.{Stepped}
+use Rattle.rughtena.specs.Answers.{clockOf, clockNumbers}
+use Rattle.rughtena.specs.Step.{exported, exportedStep, replyBy}
+use Rattle.rughtena.specs.declared.Answer.{Answer}
 
--- after a call only the first k words of a list may differ
-pub record Only (k : ℕ) (before after : List ℕ) : Type 0 where
+-- ---- the shape
+
+-- a lent memory before and after a call, and what an accepted call may do to it
+pub data Memory : Type 1 where
+  memory : List ℕ → List ℕ → (List ℕ → List ℕ → Type 0) → Memory
+
+abbrev pub Unaltered : List Memory → Type 0
+Unaltered [] = Unit {0}
+Unaltered (memory before after change ∷ rest) = (after ≡ before) × Unaltered rest
+
+abbrev pub Altered : List Memory → Type 0
+Altered [] = Unit {0}
+Altered (memory before after change ∷ rest) = change before after × Altered rest
+
+-- how a call ends that is lent these memories, and has these values where it is accepted
+pub data Ends (reply : Reply) (values : List ℕ) (memories : List Memory) : Type 0 where
+  refused : (number place : ℕ) → reply ≡ refuses number place → 1 ≤ number → number ≤ 15 → Unaltered memories → Ends reply values memories
+  accepted : reply ≡ accepts values → Altered memories → Ends reply values memories
+
+-- only the named words are altered
+pub record Only (Named : ℕ → Type 0) (before after : List ℕ) : Type 0 where
   pub long : length after ≡ length before
-  pub behind : (i : ℕ) → k ≤ i → getD after i 0 ≡ getD before i 0
+  pub others : (i : ℕ) → (Named i → ⊥) → getD after i 0 ≡ getD before i 0
 
--- setting a network
-unfoldable pub SetLends : ℕ → List ℕ → SetOutcome → Type 0
-SetLends width values o =
-    ((r : Refusal) × (o ≡ setOutcome (Unset r) values))
-    ⊎ ((after : List ℕ) × (o ≡ setOutcome (Written (settledOf (depthOf width))) after) × Only (bitCount (depthOf width)) values after)
+-- the memory becomes this
+abbrev pub Becomes : List ℕ → List ℕ → List ℕ → Type 0
+Becomes next before after = after ≡ next
 
--- reading a set: scratch is a shared slice
-unfoldable pub ReadLends : List ℕ → List ℕ → List ℕ → Type 0
-ReadLends file images scratch =
-    ((r : Refusal) × (readOf file images scratch ≡ readOutcome (Unread r) images))
-    ⊎ ((n : ℕ) × (w : ℕ) × (after : List ℕ) × (readOf file images scratch ≡ readAs n w file after) × Only n images after)
+-- ---- which words are named
 
--- generating a set: n scratch words may hold anything afterwards, fewer than the 4n + 1,024 that are lent
-abbrev pub GenerateLends : ℕ → ℕ → List ℕ → List ℕ → Generation → List ℕ → List ℕ → Type 0
-GenerateLends n w file scratch answer file′ scratch′ =
-    ((r : Refusal) × (answer ≡ Unmade r) × (file′ ≡ file) × (scratch′ ≡ scratch))
-    ⊎ ((answer ≡ Made (extentOf n w)) × Only (fileLength n w) file file′ × Only n scratch scratch′)
+-- the first k
+abbrev pub First : ℕ → ℕ → Type 0
+First k i = i < k
 
--- what an accepted step on a set of n words and width w alters
-pub record Moved (file first second out : List ℕ) (n w : ℕ) (first′ second′ out′ : List ℕ) : Type 0 where
-  pub opened : openOf file ≡ Set (shapeOf n w)
-  pub first-only : Only (2 * n) first first′
-  pub second-only : Only (2 * n) second second′
-  pub out-only : Only w out out′
+-- of the first memory: "the w entering words go to address t of half h"
+abbrev pub Entered : ℕ → ℕ → Clock → ℕ → Type 0
+Entered n w clock i = (b : ℕ) × (b < w) × (i ≡ spot (cycles n w) (clock .half) b (clock .cycle))
 
--- a step
-unfoldable pub StepLends : List ℕ → Clock → List ℕ → List ℕ → List ℕ → StepOutcome → Type 0
-StepLends file clock first second out o =
-    ((r : Refusal) × (o ≡ stepOutcome (Unstepped r) first second out))
-    ⊎ ((n : ℕ) × (w : ℕ) × (first′ : List ℕ) × (second′ : List ℕ) × (out′ : List ℕ)
-    × (o ≡ stepOutcome (saysOf n w file clock) first′ second′ out′) × Moved file first second out n w first′ second′ out′)
+-- of the second: "if fill is at least 1", bank k takes a word at its write address in half h
+abbrev pub Taken : ℕ → ℕ → List ℕ → Clock → ℕ → Type 0
+Taken n w file clock i =
+    (k : ℕ) × (k < w) × (1 ≤ clock .fill) × (i ≡ spot (cycles n w) (clock .half) k (writeAddress n w file (clock .cycle) k))
 
--- a step on a lent clock: refused, the clock too is as it was, else it is the next clock
-unfoldable pub LentLends : List ℕ → Clock → List ℕ → List ℕ → List ℕ → Lent → Type 0
-LentLends file clock first second out o =
-    ((r : Refusal) × (o ≡ lent (Unstepped r) clock first second out))
-    ⊎ ((n : ℕ) × (w : ℕ) × (first′ : List ℕ) × (second′ : List ℕ) × (out′ : List ℕ)
-    × (o ≡ lent (saysOf n w file clock) (nextClock (cycles n w) clock) first′ second′ out′)
-    × Moved file first second out n w first′ second′ out′)
+-- of the output memory: "if fill is 2", the w words that leave; "otherwise .. the output is not written"
+abbrev pub Leaving : ℕ → Clock → ℕ → Type 0
+Leaving w clock i = (i < w) × (2 ≤ clock .fill)
+
+-- ---- a step on a set, whose n and w its header says
+
+-- 0 for `filling`, 1 for written words
+unfoldable pub saysWritten : Clock → ℕ
+saysWritten clock = ifLt (clock .fill) 2 0 1
+
+-- the numbers of the next clock
+unfoldable pub nextNumbers : List ℕ → Clock → List ℕ
+nextNumbers file clock = clockNumbers (nextClock (cycles (headerWords file) (headerWidth file)) clock)
+
+-- the first, the second and the output memory, each before and after
+abbrev pub stepMemories : List ℕ → Clock → List ℕ → List ℕ → List ℕ → List ℕ → List ℕ → List ℕ → List Memory
+stepMemories file clock first first′ second second′ out out′ =
+    memory first first′ (Only (Entered (headerWords file) (headerWidth file) clock))
+    ∷ memory second second′ (Only (Taken (headerWords file) (headerWidth file) file clock))
+    ∷ memory out out′ (Only (Leaving (headerWidth file) clock))
+    ∷ []
+
+-- ---- the calls
+
+pub record Lending : Type 0 where
+  -- setting a network: B; the first B values
+  pub set : (width : ℕ) (images values : List ℕ) (answer : Setting) (values′ : List ℕ)
+      → setOutcome answer values′ ≡ settingOf width images values
+      → Ends (settingReply answer) (bitCount (depthOf width) ∷ []) (memory values values′ (Only (First (bitCount (depthOf width)))) ∷ [])
+  -- following a line: the line on which it leaves; nothing is lent to be written
+  pub follow : (width : ℕ) (values : List ℕ) (line : ℕ) (answer : Followed) → answer ≡ followOf width values line
+      → Ends (followedReply answer) (leaves (depthOf width) (λ i. getD values i 0) line ∷ []) []
+  -- reading: n and w; the first n images
+  pub read : (file images scratch : List ℕ) (answer : Reading) (images′ : List ℕ) → readOutcome answer images′ ≡ readOf file images scratch
+      → Ends (readingReply answer) (headerWords file ∷ headerWidth file ∷ []) (memory images images′ (Only (First (headerWords file))) ∷ [])
+  -- generating: the file's length; as many bytes of the file, and n scratch words, fewer than the 4n + 1,024 that are lent
+  pub generate : (n w : ℕ) (images file scratch : List ℕ) (answer : Generation) (file′ scratch′ : List ℕ)
+      → Generates n w images file scratch answer file′ scratch′
+      → Ends (generationReply answer) (fileLength n w ∷ [])
+      (memory file file′ (Only (First (fileLength n w))) ∷ memory scratch scratch′ (Only (First n)) ∷ [])
+  -- a step: whether words were written, and the next clock
+  pub step : (file : List ℕ) (clock : Clock) (first second words out : List ℕ) (answer : Stepped) (first′ second′ out′ : List ℕ)
+      → stepOutcome answer first′ second′ out′ ≡ stepOf file clock first second words out
+      → Ends (stepReply answer) (saysWritten clock ∷ nextNumbers file clock) (stepMemories file clock first first′ second second′ out out′)
+  -- a step on a lent clock, which becomes the next one
+  pub step-lent : (file : List ℕ) (clock : Clock) (first second words out : List ℕ)
+      (answer : Stepped) (clock′ : Clock) (first′ second′ out′ : List ℕ)
+      → lent answer clock′ first′ second′ out′ ≡ lentStep file clock first second words out
+      → Ends (stepReply answer) (saysWritten clock ∷ nextNumbers file clock)
+      (memory (clockNumbers clock) (clockNumbers clock′) (Becomes (nextNumbers file clock))
+      ∷ stepMemories file clock first first′ second second′ out out′)
+  -- the step that C calls, told by its integers; its clock is three lent numbers
+  pub step-exported : (file numbers first second words out : List ℕ) (answer : Answer) (numbers′ first′ second′ out′ : List ℕ)
+      → length numbers ≡ 3 → exported answer numbers′ first′ second′ out′ ≡ exportedStep file numbers first second words out
+      → Ends (replyBy (answer .number) (answer .value)) (saysWritten (clockOf numbers) ∷ [])
+      (memory numbers numbers′ (Becomes (nextNumbers file (clockOf numbers)))
+      ∷ stepMemories file (clockOf numbers) first first′ second second′ out out′)

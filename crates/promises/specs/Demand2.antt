@@ -1,42 +1,66 @@
--- Demand 2, reading: a file of the right form is accepted exactly where the datapath, run on it for one frame, performs some permutation,
--- and reading then gives that permutation. Every other file is refused, and nothing is written. A generated set reads as the permutation
--- that it was made from. All over `readOf`, which the contract of `tables::read` cites.
+-- Demand 2, reading, as a demand on any reader: a file in document 01's form is accepted exactly where the datapath, run on it for one frame,
+-- performs some permutation, and reading then gives that permutation. Every other file is refused, and nothing is written. A generated set is
+-- in the form and reads as the permutation that it was made from. What a reading tells is put in document 01's numbers and values.
 use Prim.Native.Nat.{ℕ, _*_, _<_, _≤_}
 use mathlib.Core.Path.{_≡_}
-use mathlib.Core.List.{List}
-use mathlib.Core.Logic.{_↔_}
-use lib.ListN.{length}
+use mathlib.Core.List.{List, [], _∷_}
+use mathlib.Core.Logic.{_↔_, _⊎_}
+use lib.ListN.{length, take}
 use Rattle.laws.specs.Tabulate.{overwrite}
-use Rattle.laws.specs.Permutation.{Permutes}
-use Rattle.refusal.specs.declared.Refusal.{Refusal}
-use Rattle.tables.specs.Terms.{Dims}
-use Rattle.tables.specs.Format.{shapeOf, openOf}
+use Rattle.refusal.specs.Replies.{Reply, accepts, refuses}
+use Rattle.images.specs.Images.{orderOf}
+use Rattle.tables.specs.Terms.{fileLength}
+use Rattle.tables.specs.Format.{Form}
 use Rattle.tables.specs.Datapath.{Performs}
-use Rattle.tables.specs.Reading.{readOutcome, readAs, readOf}
-use Rattle.tables.specs.Generated.{Schedule, setOf}
-use Rattle.tables.specs.declared.Opened.the-variants.{Set}
-use Rattle.tables.specs.declared.Reading.the-variants.{Refused}
-use Rattle.tables.specs.Reading.{Answered}
+use Rattle.tables.specs.Reading.{ReadOutcome, readOutcome, readingReply}
+use Rattle.generator.specs.Generating.{Generable, Generates}
+use Rattle.generator.specs.declared.Generation.{Generation}
 
--- the file has document 01's form, for frames of n words and width w
-abbrev pub Formed : List ℕ → ℕ → ℕ → Type 0
-Formed file n w = openOf file ≡ Set (shapeOf n w)
+-- a reader: from a file, lent images and lent scratch to an answer with the images afterwards. The contract of `tables::read` says that it is
+-- the reader `readOf`
+abbrev pub Reader : Type 0
+Reader = List ℕ → List ℕ → List ℕ → ReadOutcome
+
+-- what a reading tells: the reply in document 01's numbers and values, and the images afterwards
+pub data Told : Type 0 where
+  told : Reply → List ℕ → Told
+
+unfoldable pub toldOf : ReadOutcome → Told
+toldOf (readOutcome answer images) = told (readingReply answer) images
+
+-- a file is accepted as n words of width w, and p is written over the first n images
+abbrev pub ReadsAs : Reader → List ℕ → List ℕ → List ℕ → ℕ → ℕ → (ℕ → ℕ) → Type 0
+ReadsAs read file images scratch n w p = toldOf (read file images scratch) ≡ told (accepts (n ∷ w ∷ [])) (overwrite n p images)
+
+-- it is refused, and nothing is written
+abbrev pub Refuses : Reader → List ℕ → List ℕ → List ℕ → Type 0
+Refuses read file images scratch = (number : ℕ) × (place : ℕ) × (toldOf (read file images scratch) ≡ told (refuses number place) images)
 
 -- n words for the images and 2n scratch words are lent
 abbrev pub Lent : List ℕ → List ℕ → ℕ → Type 0
 Lent images scratch n = (n ≤ length images) × (2 * n ≤ length scratch)
 
-pub record Reading : Type 0 where
-  -- accepted with p written exactly where the datapath performs p
-  pub exact : (file images scratch : List ℕ) {n w : ℕ} (p : ℕ → ℕ) → Formed file n w → Lent images scratch n
-      → Performs n w file p ↔ (readOf file images scratch ≡ readAs n w file (overwrite n p images))
+-- accepted with p written exactly where the datapath performs p
+abbrev pub Exact : Reader → Type 0
+Exact read = (file images scratch : List ℕ) (n w : ℕ) (p : ℕ → ℕ) → Form n w file → Lent images scratch n
+    → Performs n w file p ↔ ReadsAs read file images scratch n w p
+
+-- how every reading ends: accepted, the file has the form, its memory was lent, and what was written is performed; or it is refused
+abbrev pub Answered : Reader → List ℕ → List ℕ → List ℕ → Type 0
+Answered read file images scratch =
+    ((n : ℕ) × (w : ℕ) × (p : ℕ → ℕ) × ReadsAs read file images scratch n w p × Form n w file × Lent images scratch n × Performs n w file p)
+    ⊎ Refuses read file images scratch
+
+pub record Reading (read : Reader) : Type 0 where
+  pub exact : Exact read
+  pub always : (file images scratch : List ℕ) → Answered read file images scratch
+  -- "every other file is refused": one that is in no form, or of which the datapath performs no permutation
+  pub others : (file images scratch : List ℕ) → ((n w : ℕ) (p : ℕ → ℕ) → Form n w file → Performs n w file p → ⊥)
+      → Refuses read file images scratch
   -- the datapath performs one permutation at most
   pub only : {n w : ℕ} {file : List ℕ} {p q : ℕ → ℕ} → Performs n w file p → Performs n w file q → (i : ℕ) → i < n → p i ≡ q i
-  -- where it performs none, the file is refused and the images stay
-  pub refused : (file images scratch : List ℕ) {n w : ℕ} → Formed file n w → ((p : ℕ → ℕ) → Performs n w file p → ⊥)
-      → (r : Refusal) × (readOf file images scratch ≡ readOutcome (Refused r) images)
-  -- every call ends so: an accepted file has the form, its memory was lent, and what was written is performed; or it is refused
-  pub always : (file images scratch : List ℕ) → Answered file images scratch
-  -- a set made from a permutation, whatever its read lines, is accepted and reads as the permutation
-  pub generated : {n w : ℕ} {p : ℕ → ℕ} {reads : ℕ → ℕ → ℕ} (images scratch : List ℕ) → Dims n w → Permutes n p → Schedule n w p reads
-      → Lent images scratch n → readOf (setOf n w p reads) images scratch ≡ readAs n w (setOf n w p reads) (overwrite n p images)
+  -- a generated set, as many bytes as generating reports, is in the form and reads as the permutation
+  pub generated : (n w : ℕ) (images file scratch : List ℕ) (answer : Generation) (file′ scratch′ : List ℕ)
+      → Generable n w images (length file) (length scratch) → Generates n w images file scratch answer file′ scratch′
+      → Form n w (take (fileLength n w) file′)
+      × ((out memory : List ℕ) → Lent out memory n → ReadsAs read (take (fileLength n w) file′) out memory n w (orderOf n images))

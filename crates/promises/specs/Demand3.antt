@@ -1,31 +1,32 @@
 -- Demand 3, the machine: for every permutation of n words and every width that divides n a set is generated, and over any list of steps on
 -- it, refused ones included, the cycle machine and the plain rule show the same. All over `Generates`, which the contract of
--- `generator::generate` cites, and `machine`, which is made of `stepOf`, which the contract of `machine::step` cites.
+-- `generator::generate` cites, and `machine`, which is made of `stepOf`, which the contract of `machine::step` cites; then of the device with a
+-- lent clock, and of the one that C drives.
 use Prim.Native.Nat.{ℕ, _*_, _≤_}
 use mathlib.Core.Path.{_≡_}
-use mathlib.Core.List.{List}
+use mathlib.Core.List.{List, [], _∷_}
 use lib.ListN.{length, take}
-use Rattle.laws.specs.Tabulate.{overwrite}
+use Rattle.refusal.specs.Replies.{accepts}
 use Rattle.images.specs.Images.{orderOf}
 use Rattle.tables.specs.Terms.{fileLength}
-use Rattle.tables.specs.Reading.{readAs, readOf}
+use Rattle.tables.specs.Reading.{readOf}
 use Rattle.machine.specs.Devices.{Feed, run}
 use Rattle.machine.specs.Step.{fresh}
 use Rattle.machine.specs.Machine.{machine}
 use Rattle.machine.specs.LentClock.{lentMachine}
 use Rattle.machine.specs.Plain.{plain, empty}
-use Rattle.generator.specs.Generating.{Generable, Generates}
+use Rattle.generator.specs.Generating.{Generable, Generates, generationReply}
 use Rattle.generator.specs.declared.Generation.{Generation}
-use Rattle.generator.specs.declared.Generation.the-variants.{Written}
+use Rattle.rughtena.specs.Step.{exportedMachine}
+use Rattle.promises.specs.Demand2.{ReadsAs, Lent}
 
 -- what the answer of generating and the lent file afterwards are good for
 pub record Good (n w : ℕ) (images : List ℕ) (answer : Generation) (made : List ℕ) : Type 0 where
   -- a set is generated; `made` is as many bytes as the answer says
-  pub accepted : answer ≡ Written (record { length = length made })
+  pub accepted : generationReply answer ≡ accepts (length made ∷ [])
   pub long : length made ≡ fileLength n w
   -- it reads as the permutation
-  pub reads : (out scratch : List ℕ) → n ≤ length out → 2 * n ≤ length scratch
-      → readOf made out scratch ≡ readAs n w made (overwrite n (orderOf n images) out)
+  pub reads : (out scratch : List ℕ) → Lent out scratch n → ReadsAs readOf made out scratch n w (orderOf n images)
   -- and over any list of steps, from a fresh clock and two memories of 2n words or more that hold anything, the machine is the plain rule
   pub streams : (first second : List ℕ) → 2 * n ≤ length first → 2 * n ≤ length second → (steps : List Feed)
       → run (machine made) (record { clock = fresh; first = first; second = second }) steps ≡ run (plain n w (orderOf n images)) empty steps
@@ -43,4 +44,13 @@ StreamingLent = (n w : ℕ) (images file scratch : List ℕ) (answer : Generatio
     → Generable n w images (length file) (length scratch) → Generates n w images file scratch answer file′ scratch′
     → (first second : List ℕ) → 2 * n ≤ length first → 2 * n ≤ length second → (steps : List Feed)
     → run (lentMachine (take (fileLength n w) file′)) (record { clock = fresh; first = first; second = second }) steps
+    ≡ run (plain n w (orderOf n images)) empty steps
+
+-- The same of `exportedMachine`, which is made of `exportedStep`, which the contract of `rughtena_step` cites: the clock is three lent numbers,
+-- zero at first, and what is seen is read from the integers that C gets.
+abbrev pub StreamingExported : Type 0
+StreamingExported = (n w : ℕ) (images file scratch : List ℕ) (answer : Generation) (file′ scratch′ : List ℕ)
+    → Generable n w images (length file) (length scratch) → Generates n w images file scratch answer file′ scratch′
+    → (first second : List ℕ) → 2 * n ≤ length first → 2 * n ≤ length second → (steps : List Feed)
+    → run (exportedMachine (take (fileLength n w) file′)) (record { numbers = 0 ∷ 0 ∷ 0 ∷ []; first = first; second = second }) steps
     ≡ run (plain n w (orderOf n images)) empty steps

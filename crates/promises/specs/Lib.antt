@@ -2,3 +2,7 @@
 pub mod Demand1
 pub mod Demand2
 pub mod Demand3
+pub mod Rule
+pub mod Plain
+pub mod Examples
+pub mod Idle

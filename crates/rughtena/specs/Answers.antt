@@ -1,6 +1,6 @@
 -- The answers of the calls as integers, from the numbers and values that the crate of each call gives its answer.
 use Prim.Native.Nat.{ℕ}
-use mathlib.Core.List.{List}
+use mathlib.Core.List.{List, [], _∷_}
 use lib.ListN.{getD, set}
 use Rattle.refusal.specs.Replies.{Reply, accepts, refuses, refusalReply}
 use Rattle.refusal.specs.declared.Refusal.{Refusal}
@@ -51,5 +51,10 @@ steppedAnswer answer = answerOf (stepReply answer)
 unfoldable pub clockOf : List ℕ → Clock
 clockOf numbers = record { cycle = getD numbers 0 0; half = getD numbers 1 0; fill = getD numbers 2 0 }
 
+-- a clock put into them
 unfoldable pub putClock : List ℕ → Clock → List ℕ
 putClock numbers clock = set (set (set numbers 0 (clock .cycle)) 1 (clock .half)) 2 (clock .fill)
+
+-- the numbers that it puts
+unfoldable pub clockNumbers : Clock → List ℕ
+clockNumbers clock = clock .cycle ∷ clock .half ∷ clock .fill ∷ []

@@ -1,7 +1,8 @@
 // The core's answers as integers.
 ghost use mathlib.Core.Path.{_≡_};
 ghost use Rattle.machine.specs.Machine.{clockAfter};
-ghost use Rattle.rughtena.specs.Answers.{refusalAnswer, lineAnswer, settingAnswer, readingAnswer, generationAnswer, clockOf, putClock, steppedAnswer};
+ghost use Rattle.rughtena.specs.Answers.{refusalAnswer, lineAnswer, settingAnswer, readingAnswer, generationAnswer, steppedAnswer};
+ghost use Rattle.rughtena.specs.Answers.{clockOf, putClock};
 use crate::Answer;
 use crate::ReadAnswer;
 use generator::Generation;

@@ -1,5 +1,6 @@
 // The calls for C and Rust. Each takes a slice as a pointer and a length, calls the crate that does the work and gives its answer
-// as integers. A contract says that the core's contract holds of some answer, and that this answer is the one given.
+// as integers. A contract says that the core's contract holds of some answer, and that this answer is the one given; that of the step is one
+// equation.
 ghost use mathlib.Core.Path.{_≡_};
 ghost use Rattle.passing.specs.Calls.{followOf};
 ghost use Rattle.setting.specs.Calls.{settingOf, setOutcome};
@@ -8,10 +9,9 @@ ghost use Rattle.tables.specs.Reading.{readOf, readOutcome};
 ghost use Rattle.tables.specs.declared.Reading.{Reading};
 ghost use Rattle.generator.specs.Generating.{Generates};
 ghost use Rattle.generator.specs.declared.Generation.{Generation};
-ghost use Rattle.machine.specs.Step.{stepOf, stepOutcome};
-ghost use Rattle.machine.specs.Machine.{clockAfter};
-ghost use Rattle.machine.specs.declared.Stepped.{Stepped};
-ghost use Rattle.rughtena.specs.Answers.{lineAnswer, settingAnswer, readingAnswer, generationAnswer, clockOf, putClock, steppedAnswer};
+ghost use Rattle.rughtena.specs.Answers.{lineAnswer, settingAnswer, readingAnswer, generationAnswer};
+ghost use Rattle.rughtena.specs.Step.{exported, exportedStep};
+ghost use Rattle.rughtena.specs.Version.{version};
 
 mod answers;
 
@@ -37,6 +37,9 @@ pub struct ReadAnswer {
     pub words: usize,
     pub width: usize,
 }
+
+// major * 10000 + minor * 100 + patch
+const VERSION: usize = 200;
 
 // Generating a table set; the value is the file's length in bytes.
 #[no_mangle]
@@ -90,11 +93,9 @@ pub extern "C" fn rughtena_step(
     words: &[u16],
     out: &mut [u16],
 ) -> Answer
-    ensures { λ r. ⌜ ((core : Stepped) × (r ≡ steppedAnswer core)
-        × (now (clock .exit) ≡ putClock (now (clock .entry)) (clockAfter core (clockOf (now (clock .entry)))))
-        × (stepOutcome core (now (first .exit)) (now (second .exit)) (now (out .exit))
-        ≡ stepOf (now (file .entry)) (clockOf (now (clock .entry))) (now (first .entry)) (now (second .entry)) (now (words .entry))
-        (now (out .entry)))) ⌝ }
+    ensures { λ r. ⌜ exported r (now (clock .exit)) (now (first .exit)) (now (second .exit)) (now (out .exit))
+        ≡ exportedStep (now (file .entry)) (now (clock .entry)) (now (first .entry)) (now (second .entry)) (now (words .entry))
+        (now (out .entry)) ⌝ }
 {
     let given = Clock {
         cycle: clock[0],
@@ -104,4 +105,12 @@ pub extern "C" fn rughtena_step(
     let stepped = step(file, given, first, second, words, out);
     answers::move_on(clock, stepped);
     answers::of_step(stepped)
+}
+
+// The version of the library, so that a program can compare it with the header's.
+#[no_mangle]
+pub extern "C" fn rughtena_version() -> usize
+    ensures { λ r. ⌜ r ≡ version ⌝ }
+{
+    VERSION
 }

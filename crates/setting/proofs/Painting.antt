@@ -6,7 +6,7 @@ use mathlib.Core.List.{List}
 use native.Mathlib.Omega.{arith}
 use native.Mathlib.Decide.{ℕ-discrete}
 use lib.ListN.{length, getD, set, replicate, length-set, length-replicate, getD-replicate}
-use lib.Seq.{getD-set-same, getD-set-other}
+use lib.Seq.{getD-set-same, getD-set-other, set-getD}
 use Rattle.limits.specs.Limits.{mostWidth}
 use Rattle.laws.specs.Choice.{ifEq}
 use Rattle.laws.specs.Sum.{sum}
@@ -200,17 +200,30 @@ module _ (forward back : List ℕ) (I : Inverses forward back)
       pub walking-on : 2 ≤ getD (set (set h x 0) y 1) x′ 0 → Walking n p h₀ (startAt back t) x′ (set (set h x 0) y 1)
       walking-on free = record { turns = T .walking .turns + 1; here = goes-on; long = length-turned; walk = turned; free = free }
 
-      pub walking-closed : getD (set (set h x 0) y 1) x′ 0 < 2 → Before n p (t + 1) (set (set h x 0) y 1)
+      -- the first line that has its half is the start
+      round : getD (set (set h x 0) y 1) x′ 0 < 2 → iterate (next n p) (T .walking .turns + 1) (startAt back t) ≡ startAt back t
+      round met =
+          let W = T .walking in
+          walk-closes n p (I .permutes) even h₀ h (set (set h x 0) y 1) (startAt back t) (W .turns) (start-below t (T .due)) (T .begun .painted)
+          (T .start) (W .walk) (rw (W .here) at (W .free)) turned (rw goes-on at met)
+
+      -- so the half with which the walk leaves is the start's own
+      settled : getD (set (set h x 0) y 1) x′ 0 < 2
+          → set (set (set h x 0) y 1) (startAt back t) (getD (set (set h x 0) y 1) x′ 0) ≡ set (set h x 0) y 1
+      settled met =
+          let there : x′ ≡ startAt back t = goes-on ∙ round met in
+          rw there (set-getD (set (set h x 0) y 1) (startAt back t) 0)
+
+      pub walking-closed : getD (set (set h x 0) y 1) x′ 0 < 2
+          → Before n p (t + 1) (set (set (set h x 0) y 1) (startAt back t) (getD (set (set h x 0) y 1) x′ 0))
       walking-closed met =
           let W = T .walking in
           let B = T .begun in
-          let below = start-below t (T .due) in
-          let round : iterate (next n p) (W .turns + 1) (startAt back t) ≡ startAt back t =
-          walk-closes n p (I .permutes) even h₀ h (set (set h x 0) y 1) (startAt back t) (W .turns) below (B .painted) (T .start) (W .walk)
-          (rw (W .here) at (W .free)) turned (rw goes-on at met) in
-          before-more t h₀ (set (set h x 0) y 1) (T .due) B
-          (walk-back n p (I .permutes) even h₀ (set (set h x 0) y 1) (startAt back t) (W .turns) below (B .painted) turned round)
-          length-turned (turned .kept) (walk-started n p h₀ (startAt back t) (W .turns) (set (set h x 0) y 1) turned)
+          rw (settled met)
+          (before-more t h₀ (set (set h x 0) y 1) (T .due) B
+          (walk-back n p (I .permutes) even h₀ (set (set h x 0) y 1) (startAt back t) (W .turns) (start-below t (T .due)) (B .painted) turned
+          (round met))
+          length-turned (turned .kept) (walk-started n p h₀ (startAt back t) (W .turns) (set (set h x 0) y 1) turned))
 
       pub walking-lighter : weight (set (set h x 0) y 1) < weight h
       walking-lighter = weight-paint h x y (G .beside) (T .walking .long) (omega (arith, walking-below)) partner-few (T .walking .free)

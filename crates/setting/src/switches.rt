@@ -23,7 +23,8 @@ fn start_of(back: &[u8], t: usize) -> usize
     2 * (t - 1)
 }
 
-// The half of each line by the rule; 2 stands for none yet. `forward` is the permutation and `back` its inverse.
+// The half of each line by the rule; 2 stands for none yet. `forward` is the permutation and `back` its inverse. A walk ends where its loop
+// closes, at its start, and leaves with the half that is settled there.
 fn halves(forward: &[u8], back: &[u8]) -> [u8; MOST_WIDTH]
     requires { ⌜ Inverses (now forward) (now back) ⌝ }
     requires { ⌜ (length (now forward) % 2 ≡ 0) × (length (now forward) ≤ mostWidth) × (0 < length (now forward)) ⌝ }
@@ -40,15 +41,17 @@ fn halves(forward: &[u8], back: &[u8]) -> [u8; MOST_WIDTH]
             continue 'starts;
         }
         let mut x = start;
-        'walk: loop {
+        let settled = 'walk: loop {
             half[x] = 0;
             let y = partner_of(x);
             half[y] = 1;
             x = value_at(back, partner_of(value_at(forward, y)));
-            if half[x] < 2 {
-                continue 'starts;
+            let met = half[x];
+            if met < 2 {
+                break 'walk met;
             }
-        }
+        };
+        half[start] = settled;
     }
     half
 }

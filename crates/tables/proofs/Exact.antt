@@ -2,7 +2,7 @@
 -- permutation, and then that permutation is written; else it is refused, and the images stay. A generated set is accepted and read back.
 -- The idea: the scan of the lines accepts what `Accepted` says, and that is what a performed permutation needs.
 use Prim.Native.Nat.{ℕ, _*_, _<_, _≤_}
-use mathlib.Core.Path.{_≡_, refl, sym, ap, subst₂, subst₃, _∙_}
+use mathlib.Core.Path.{_≡_, refl, sym, ap, subst₃, _∙_}
 use mathlib.Core.List.{List}
 use mathlib.Core.Logic.{_⊎_, inl, inr, ⊎-elim, _↔_}
 use native.Mathlib.Omega.{arith}
@@ -18,7 +18,7 @@ use Rattle.tables.specs.Terms.{cycles}
 use Rattle.tables.specs.Header.{headerWords, headerWidth}
 use Rattle.tables.specs.Format.{shapeOf, openOf}
 use Rattle.tables.specs.Datapath.{Performs}
-use Rattle.tables.specs.Reading.{readOutcome, contentsOf, readAs, Performed, Answered, scanLines, imageOf, readLines, readOpened, readOf}
+use Rattle.tables.specs.Reading.{readOutcome, contentsOf, readAs, scanLines, imageOf, readLines, readOpened, readOf}
 use Rattle.tables.specs.Generated.{Schedule, setOf}
 use Rattle.tables.specs.declared.Opened.the-variants.{Set, Refused}
 use Rattle.tables.specs.declared.Contents.{Contents}
@@ -26,8 +26,22 @@ use Rattle.tables.specs.declared.Reading.the-variants.{Refused as Unread
 use Rattle.tables.proofs.Dims.{Dims}
 use Rattle.tables.proofs.Accepted.{Accepted, scan-cases, accepted-scan}
 use Rattle.tables.proofs.Performs.{accepted-performs, performs-accepted, performs-image, performs-ext}
-use Rattle.tables.proofs.Form.{Form, opened-form, open-cases, setOf-opened}
+use Rattle.tables.proofs.Form.{opened-form, open-cases, setOf-opened}
 use Rattle.tables.proofs.ReadsBack.{setOf-performs}
+
+-- what a reading tells that is accepted as n words of width w, with the images `after`
+pub record Performed (file images scratch : List ℕ) (n w : ℕ) (after : List ℕ) : Type 0 where
+  pub opened : openOf file ≡ Set (shapeOf n w)
+  pub room : n ≤ length images
+  pub scratch-room : 2 * n ≤ length scratch
+  pub performs : Performs n w file (λ i. getD after i 0)
+  pub written : after ≡ overwrite n (λ i. getD after i 0) images
+
+-- a reading is accepted with a permutation that is performed, or it is a refusal and the images stay
+abbrev pub Answered : List ℕ → List ℕ → List ℕ → Type 0
+Answered file images scratch =
+    ((n : ℕ) × (w : ℕ) × (after : List ℕ) × (readOf file images scratch ≡ readAs n w file after) × Performed file images scratch n w after)
+    ⊎ ((r : Refusal) × (readOf file images scratch ≡ readOutcome (Unread r) images))
 
 module _ (file images scratch : List ℕ) where
   -- ---- from the tests of the form to the lines
@@ -108,20 +122,6 @@ module _ (file images scratch : List ℕ) where
           let width : r .1 ≡ w = ap (λ (c : Contents). c .width) contents in
           let given : r .2 ≡ after = cc (r .3) in
           subst₃ (Performed file images scratch) words width given (r .4)
-
-  -- where no permutation is performed, the answer is a refusal and the images stay
-  pub read-refuses : {n w : ℕ} → openOf file ≡ Set (shapeOf n w) → ((p : ℕ → ℕ) → Performs n w file p → ⊥)
-      → (r : Refusal) × (readOf file images scratch ≡ readOutcome (Unread r) images)
-  read-refuses {n} {w} h none = ⊎-elim accepted (λ r. r) read-cases
-    where
-      accepted : (m : ℕ) × (v : ℕ) × (after : List ℕ) × (readOf file images scratch ≡ readAs m v file after) × Performed file images scratch m v after
-          → (r : Refusal) × (readOf file images scratch ≡ readOutcome (Unread r) images)
-      accepted r =
-          let P : Performs (r .0) (r .1) file (λ i. getD (r .2) i 0) = r .4 .performs in
-          let F : Form (r .0) (r .1) file = opened-form file (r .4 .opened) in
-          let G : Form n w file = opened-form file h in
-          absurd (none (λ i. getD (r .2) i 0)
-          (subst₂ (λ (m v : ℕ). Performs m v file (λ i. getD (r .2) i 0)) (sym (F .words) ∙ G .words) (sym (F .width) ∙ G .width) P))
 
   -- in one statement: p is performed exactly where the answer is that p is written
   pub read-exact : {n w : ℕ} (p : ℕ → ℕ) → openOf file ≡ Set (shapeOf n w) → n ≤ length images → 2 * n ≤ length scratch

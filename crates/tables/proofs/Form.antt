@@ -1,49 +1,84 @@
--- The form of a file, as plain facts: valid dimensions in the header, four zeros behind them, the length that they imply, and zeros up to
--- a whole byte. A file opens exactly where it has this form; each of the tests, in their order, decides one of the facts.
-use Prim.Native.Nat.{ℕ}
-use mathlib.Core.Path.{_≡_, refl, sym, ap, subst₂, subst}
+-- A file opens exactly where it has the form of a set: each of the tests, in their order, decides one of the facts of `Form`. The header's
+-- bits and its three fields determine each other, and so do the filling bits and the number that they write. A file in the form opens as the
+-- n and w that its header says, so it has the form for one n and w only.
+use Prim.Native.Nat.{ℕ, suc, _+_, _*_, _-_, _<_, _≤_}
+use mathlib.Core.Path.{_≡_, refl, sym, ap, subst₂, subst, _∙_}
 use mathlib.Core.List.{List}
 use mathlib.Core.Logic.{_⊎_, inl, inr, ⊎-elim}
 use native.Mathlib.Omega.{arith}
+use native.Mathlib.Nat.{mod-eq-of-lt}
 use lib.ListN.{length}
+use lib.Pow.{pow-pos}
 use Rattle.laws.specs.Permutation.{Permutes}
 use Rattle.laws.proofs.Choices.{ifLt-no, ifEq-yes, ifLt-cases, ifEq-cases, zero-not-one}
+use Rattle.bits.specs.Bits.{digit, bit}
+use Rattle.bits.proofs.Fields.{bit-field, field-digits}
 use Rattle.refusal.specs.declared.Refusal.{Refusal}
 use Rattle.refusal.specs.declared.Refusal.the-variants.{FileShort, Header, FileLong}
-use Rattle.tables.specs.Terms.{fileLength}
+use Rattle.tables.specs.Terms.{cycles, fileLength}
 use Rattle.tables.specs.Header.{leastHeader, headerWords, headerWidth, headerZeros}
-use Rattle.tables.specs.Format.{filling, shapeOf, Shaped, headerTest, lengthTest, openOf}
+use Rattle.tables.specs.Format.{lineAt, filling, Form, shapeOf, Shaped, headerTest, lengthTest, openOf}
 use Rattle.tables.specs.Generated.{Schedule, setOf}
 use Rattle.tables.specs.declared.Shape.{Shape}
 use Rattle.tables.specs.declared.Opened.{Opened}
 use Rattle.tables.specs.declared.Opened.the-variants.{Set, Refused}
 use Rattle.tables.proofs.Dims.{Dims, fileLength-header}
 use Rattle.tables.proofs.Opens.{shape-own}
-use Rattle.tables.proofs.SetBits.{length-setOf}
+use Rattle.tables.proofs.SetBits.{digit-none, length-setOf}
 use Rattle.tables.proofs.ReadsBack.{setOf-begins, filling-setOf}
 use Rattle.tables.proofs.LimitTests.{limit-passes, limit-cases}
-use Rattle.tables.proofs.Header.{begins-opens}
+use Rattle.tables.proofs.Header.{begins-opens, opens-begins}
 
--- a file of the right form, of n words and width w
-pub record Form (n w : ℕ) (file : List ℕ) : Type 0 where
-  pub dims : Dims n w
-  pub words : headerWords file ≡ n
-  pub width : headerWidth file ≡ w
-  pub zeros : headerZeros file ≡ 0
-  pub long : length file ≡ fileLength n w
-  pub filled : filling n w file ≡ 0
+-- ---- the filling
 
--- a file of the right form opens
-pub form-opened : {n w : ℕ} {file : List ℕ} → Form n w file → openOf file ≡ Set (shapeOf n w)
-unfolding openOf headerTest lengthTest
-form-opened {n} {w} {file} F = rw (F .words, F .width, limit-passes (λ _. Refused Header) _ (F .dims)) (sym (
-    ifLt-no (length file) leastHeader _ _ _ (omega (arith, F .long, fileLength-header n w)) (
-    ifEq-yes (headerZeros file) 0 _ _ _ (F .zeros) (
-    ifLt-no (length file) (fileLength n w) _ _ _ (omega (arith, F .long)) (
-    ifLt-no (fileLength n w) (length file) _ _ _ (omega (arith, F .long)) (
-    ifEq-yes (filling n w file) 0 _ _ _ (F .filled) refl))))))
+module _ (n w : ℕ) (file : List ℕ) where
+  abbrev at : ℕ
+  at = lineAt n w (cycles n w)
 
--- a file opens with its header's shape and has the right form, or is refused
+  abbrev size : ℕ
+  size = 8 * fileLength n w - at
+
+  -- the filling bits are zero exactly where the number that they write is
+  filled-filling : ((i : ℕ) → at ≤ i → i < 8 * fileLength n w → bit file i ≡ 0) → filling n w file ≡ 0
+  unfolding filling
+  filled-filling zeros =
+      field-digits file at size 0 (λ j l. zeros (at + j) (omega arith) (omega arith) ∙ sym (digit-none (size - suc j))) ∙ mod-eq-of-lt (pow-pos size)
+
+  filling-filled : filling n w file ≡ 0 → (i : ℕ) → at ≤ i → i < 8 * fileLength n w → bit file i ≡ 0
+  unfolding filling
+  filling-filled none i l m =
+      let e : at + (i - at) ≡ i = omega arith in
+      rw e at (bit-field file at size (i - at) (omega arith)) ∙ ap (λ (z : ℕ). digit z (size - suc (i - at))) none ∙ digit-none (size - suc (i - at))
+
+-- ---- what the header of a file in the form says
+
+module _ {n w : ℕ} {file : List ℕ} (F : Form n w file) where
+  pub form-words : headerWords file ≡ n
+  form-words = begins-opens file (F .dims) (F .begins) .0
+
+  pub form-width : headerWidth file ≡ w
+  form-width = begins-opens file (F .dims) (F .begins) .1
+
+  form-zeros : headerZeros file ≡ 0
+  form-zeros = begins-opens file (F .dims) (F .begins) .2
+
+  -- it opens
+  pub form-opened : openOf file ≡ Set (shapeOf n w)
+  unfolding openOf headerTest lengthTest
+  form-opened = rw (form-words, form-width, limit-passes (λ _. Refused Header) _ (F .dims)) (sym (
+      ifLt-no (length file) leastHeader _ _ _ (omega (arith, F .long, fileLength-header n w)) (
+      ifEq-yes (headerZeros file) 0 _ _ _ form-zeros (
+      ifLt-no (length file) (fileLength n w) _ _ _ (omega (arith, F .long)) (
+      ifLt-no (fileLength n w) (length file) _ _ _ (omega (arith, F .long)) (
+      ifEq-yes (filling n w file) 0 _ _ _ (filled-filling n w file (F .filled)) refl))))))
+
+-- a file has the form for one n and w only
+pub form-same : {n w m v : ℕ} {file : List ℕ} → Form n w file → Form m v file → (n ≡ m) × (w ≡ v)
+form-same F G = (sym (form-words F) ∙ form-words G, sym (form-width F) ∙ form-width G)
+
+-- ---- a file that opens
+
+-- a file opens with its header's shape and has the form, or is refused
 pub open-cases : (file : List ℕ)
     → ((openOf file ≡ Set (shapeOf (headerWords file) (headerWidth file))) × Form (headerWords file) (headerWidth file) file)
     ⊎ ((r : Refusal) × (openOf file ≡ Refused r))
@@ -56,9 +91,9 @@ open-cases file =
     ifEq-cases Judged (headerZeros file) 0 _ _ (λ zeros.
     ifLt-cases Judged (length file) (fileLength n w) _ _ (λ _. inr (FileShort, refl)) λ enough.
     ifLt-cases Judged (fileLength n w) (length file) _ _ (λ _. inr (FileLong, refl)) λ exact.
-    ifEq-cases Judged (filling n w file) 0 _ _ (λ filled. inl (
+    ifEq-cases Judged (filling n w file) 0 _ _ (λ none. inl (
       refl,
-      record { dims = dims; words = refl; width = refl; zeros = zeros; long = omega arith; filled = filled },
+      record { dims = dims; begins = opens-begins file refl refl zeros; long = omega arith; filled = filling-filled n w file none },
     )) (λ _. inr (FileLong, refl)))
     (λ _. inr (Header, refl))
   where
@@ -80,24 +115,24 @@ opened-form {n} {w} file h = ⊎-elim here (λ r. absurd (zero-not-one (cc (r .1
 pub opened-dims : {n w : ℕ} (file : List ℕ) → openOf file ≡ Set (shapeOf n w) → Dims n w × (length file ≡ fileLength n w)
 opened-dims file h = let F = opened-form file h in (F .dims, F .long)
 
--- a generated set has the right form
+-- ---- a generated set
+
+-- a generated set has the form
 pub setOf-form : {n w : ℕ} {p : ℕ → ℕ} {reads : ℕ → ℕ → ℕ} → Dims n w → Permutes n p → Schedule n w p reads → Form n w (setOf n w p reads)
-setOf-form {n} {w} {p} {reads} D P S =
-    let says = begins-opens (setOf n w p reads) D (setOf-begins D P S) in
-    record {
-      dims = D;
-      words = says .0;
-      width = says .1;
-      zeros = says .2;
-      long = length-setOf n w p reads;
-      filled = filling-setOf D P S;
-    }
+setOf-form {n} {w} {p} {reads} D P S = record {
+  dims = D;
+  begins = setOf-begins D P S;
+  long = length-setOf n w p reads;
+  filled = filling-filled n w (setOf n w p reads) (filling-setOf D P S);
+}
 
 pub setOf-opened : {n w : ℕ} {p : ℕ → ℕ} {reads : ℕ → ℕ → ℕ} → Dims n w → Permutes n p → Schedule n w p reads
     → openOf (setOf n w p reads) ≡ Set (shapeOf n w)
 setOf-opened D P S = form-opened (setOf-form D P S)
 
--- the shape of a file of the right form is that of its own numbers
+-- ---- the shape
+
+-- the shape of a file that opens is that of its own numbers
 pub opened-shape : (file : List ℕ) (s : Shape) → openOf file ≡ Set s → Shaped s
 opened-shape file s h =
     ⊎-elim

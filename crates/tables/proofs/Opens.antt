@@ -4,17 +4,16 @@ use Prim.Native.Nat.{ℕ, suc, _+_, _-_, _*_, _/_, _%_, _^_, _<_, _≤_}
 use mathlib.Core.Path.{_≡_, refl, sym, ap, _∙_}
 use mathlib.Core.List.{List}
 use native.Mathlib.Omega.{arith}
-use native.Mathlib.Nat.{one-mul, pow-suc, pow-le-pow-right}
+use native.Mathlib.Nat.{pow-suc, pow-le-pow-right}
 use native.Mathlib.Decide.{decLe}
 use lib.Count.{leadingZeros, leading-length}
-use lib.Dec.{lit<}
 use lib.ListN.{length}
-use lib.Pow.{shl-exact}
 use Rattle.limits.specs.Limits.{mostSwitches}
 use Rattle.laws.specs.Choice.{ifEq}
 use Rattle.laws.proofs.Choices.{ifLt-no, ifEq-yes, ifEq-no}
 use Rattle.refusal.specs.declared.Refusal.{Refusal}
 use Rattle.refusal.specs.declared.Refusal.the-variants.{Header}
+use Rattle.bits.proofs.Digits.{one-shl}
 use Rattle.network.specs.Network.{bitCount}
 use Rattle.tables.specs.Header.{headerBits, leastHeader, headerWords, headerWidth, headerZeros}
 use Rattle.tables.specs.Terms.{Dims, limitTest, limitsOf, logUp, cycles, addressBits, depth, switchBits, addressRow, lineBits, fileLength}
@@ -46,10 +45,6 @@ log-up-digits x some fits = elim (decLe digits (logUp x)) [
 
 -- ---- a shape
 
--- `1 << d`, of 64 bits
-one-shl-wide : (d : ℕ) → d ≤ 6 → 1 * 2 ^ d % 2 ^ 64 ≡ 2 ^ d
-one-shl-wide d l = shl-exact {a = 1} 1 d 64 (lit< tt) (omega arith) ∙ one-mul (2 ^ d)
-
 -- the parts as the code works them out: the bits of an address, the depth of the network and its switches
 module _ {n w a d s : ℕ} (D : Dims n w) (address : a ≡ logUp (n / w)) (deep : d ≡ logUp w) (switches : s ≡ bitCount d) where
   pub parts-few : (w * a ≤ 768) × (s ≤ mostSwitches)
@@ -69,7 +64,7 @@ module _ {n w a d s : ℕ} (D : Dims n w) (address : a ≡ logUp (n / w)) (deep 
       })
       (shapeOf n w)
   unfolding shapeOf cycles addressBits depth switchBits lineBits addressRow headerBits
-  shape-made = let few : d ≤ 6 = rw deep (depth-few D) in rw (one-shl-wide d few, address, switches, deep)
+  shape-made = let few : d ≤ 6 = rw deep (depth-few D) in rw (one-shl 64 d (omega arith), address, switches, deep)
 
 -- a shape is that of its own words and width
 pub shape-same : {s : Shape} → Shaped s → s ≡ shapeOf (s .words) (s .width)

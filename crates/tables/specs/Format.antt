@@ -1,5 +1,5 @@
 -- Document 01, "The table set": where each number of a set stands, and which files have the right form.
-use Prim.Native.Nat.{ℕ, _+_, _*_, _-_, _^_}
+use Prim.Native.Nat.{ℕ, _+_, _*_, _-_, _^_, _<_, _≤_}
 use mathlib.Core.Path.{_≡_}
 use mathlib.Core.List.{List}
 use lib.ListN.{length}
@@ -7,7 +7,7 @@ use Rattle.laws.specs.Choice.{ifLt, ifEq}
 use Rattle.bits.specs.Bits.{bit, field}
 use Rattle.refusal.specs.declared.Refusal.the-variants.{FileShort, Header, FileLong}
 use Rattle.tables.specs.Terms.{Dims, cycles, addressBits, depth, switchBits, addressRow, lineBits, fileLength, limitTest}
-use Rattle.tables.specs.Header.{headerBits, leastHeader, headerWords, headerWidth, headerZeros}
+use Rattle.tables.specs.Header.{headerBits, Begins, leastHeader, headerWords, headerWidth, headerZeros}
 use Rattle.tables.specs.declared.Shape.{Shape}
 use Rattle.tables.specs.declared.Opened.{Opened}
 use Rattle.tables.specs.declared.Opened.the-variants.{Set, Refused}
@@ -31,6 +31,14 @@ writeAddress n w file t k = field file (lineAt n w t + addressRow n w + switchBi
 -- the number that the filling bits write: "zero bits up to a whole byte"
 unfoldable pub filling : ℕ → ℕ → List ℕ → ℕ
 filling n w file = field file (lineAt n w (cycles n w)) (8 * fileLength n w - lineAt n w (cycles n w))
+
+-- a file in the form of a table set, for frames of n words and width w: the header, the length, and behind the lines "zero bits up to a whole
+-- byte"
+pub record Form (n w : ℕ) (file : List ℕ) : Type 0 where
+  pub dims : Dims n w
+  pub begins : Begins n w file
+  pub long : length file ≡ fileLength n w
+  pub filled : (i : ℕ) → lineAt n w (cycles n w) ≤ i → i < 8 * fileLength n w → bit file i ≡ 0
 
 -- what a set of n words and width w is like
 unfoldable pub shapeOf : ℕ → ℕ → Shape

@@ -1,11 +1,9 @@
 -- Reading a set: the refusals 9, 10 and 11 line by line, the permutation that an accepted set performs, and the call.
-use Prim.Native.Nat.{ℕ, zero, suc, _+_, _*_, _/_, _%_, _≤_}
-use mathlib.Core.Path.{_≡_}
-use mathlib.Core.Logic.{_⊎_}
+use Prim.Native.Nat.{ℕ, zero, suc, _+_, _*_, _/_, _%_}
 use mathlib.Core.Bool.{Bool, true}
 use mathlib.Core.List.{List, [], _∷_}
 use lib.Dec.{leb, eqb}
-use lib.ListN.{length, getD}
+use lib.ListN.{length}
 use Rattle.refusal.specs.Replies.{Reply, accepts, refusalReply}
 use Rattle.laws.specs.Choice.{choose, ifLt}
 use Rattle.laws.specs.Any.{any}
@@ -14,8 +12,8 @@ use Rattle.laws.specs.Permutation.{inverse}
 use Rattle.refusal.specs.declared.Refusal.{Refusal}
 use Rattle.refusal.specs.declared.Refusal.the-variants.{ReadAddress, SpareLine, WriteAddress, BufferShort}
 use Rattle.tables.specs.Terms.{cycles}
-use Rattle.tables.specs.Format.{readAddress, writeAddress, shapeOf, openOf}
-use Rattle.tables.specs.Datapath.{target, carryStrays, Performs}
+use Rattle.tables.specs.Format.{readAddress, writeAddress, openOf}
+use Rattle.tables.specs.Datapath.{target, carryStrays}
 use Rattle.tables.specs.declared.Opened.{Opened}
 use Rattle.tables.specs.declared.Opened.the-variants.{Set, Refused}
 use Rattle.tables.specs.declared.Contents.{Contents}
@@ -71,20 +69,6 @@ readOpened (Refused r) file images scratch = readOutcome (Unread r) images
 -- the call: its answer, and the images afterwards. Scratch is lent and not written.
 unfoldable pub readOf : List ℕ → List ℕ → List ℕ → ReadOutcome
 readOf file images scratch = readOpened (openOf file) file images scratch
-
--- what a reading tells that is accepted as n words of width w, with the images `after`
-pub record Performed (file images scratch : List ℕ) (n w : ℕ) (after : List ℕ) : Type 0 where
-  pub opened : openOf file ≡ Set (shapeOf n w)
-  pub room : n ≤ length images
-  pub scratch-room : 2 * n ≤ length scratch
-  pub performs : Performs n w file (λ i. getD after i 0)
-  pub written : after ≡ overwrite n (λ i. getD after i 0) images
-
--- a reading is accepted with a permutation that is performed, or it is a refusal and the images stay
-abbrev pub Answered : List ℕ → List ℕ → List ℕ → Type 0
-Answered file images scratch =
-    ((n : ℕ) × (w : ℕ) × (after : List ℕ) × (readOf file images scratch ≡ readAs n w file after) × Performed file images scratch n w after)
-    ⊎ ((r : Refusal) × (readOf file images scratch ≡ readOutcome (Unread r) images))
 
 -- "reading, n and w beside the written P"
 unfoldable pub readingReply : Reading → Reply

@@ -1,7 +1,8 @@
 // The form of a file: its header, its length and its filling bits.
 ghost use mathlib.Core.Path.{_≡_};
-ghost use Prim.Native.Nat.{_+_, _*_, _%_, _<_};
+ghost use Prim.Native.Nat.{_+_, _*_, _-_, _%_, _<_};
 ghost use lib.ListN.{length};
+ghost use Rattle.bits.specs.Bits.{field};
 ghost use Rattle.tables.specs.Terms.{Dims, logUp, fileLength, limitsOf};
 ghost use Rattle.refusal.specs.declared.Refusal.the-variants.{Header};
 ghost use Rattle.tables.specs.Format.{shapeOf, Shaped, lengthTest, openOf};
@@ -79,6 +80,15 @@ pub fn test_limits(words: usize, width: usize) -> Limits
     Limits::Refused(Refusal::Uneven)
 }
 
+// The number in the last `count` bits of a file, which stand in its last byte.
+fn last_bits(file: &[u8], count: usize) -> u8
+    requires { ⌜ (0 < length (now file)) × (count < 8) ⌝ }
+    ensures { λ r. ⌜ r ≡ field (now (file .entry)) (8 * length (now (file .entry)) - count) count ⌝ }
+{
+    let last = file[file.len() - 1];
+    last % (1u8 << count)
+}
+
 // Whether a file has the length and the filling bits of a set of this shape.
 fn open_whole(file: &[u8], shape: Shape) -> Opened
     requires { ⌜ Shaped shape ⌝ }
@@ -92,7 +102,7 @@ fn open_whole(file: &[u8], shape: Shape) -> Opened
         return Opened::Refused(Refusal::FileLong);
     }
     let end = shape.start + shape.cycles * shape.stride;
-    if bits::field_at(file, end, 8 * length - end) == 0 {
+    if last_bits(file, 8 * length - end) == 0 {
         return Opened::Set(shape);
     }
     Opened::Refused(Refusal::FileLong)

@@ -35,18 +35,18 @@ shl-result : tie.Need-shl-result
 shl-result c = search needs
 
 rem-result : tie.Need-rem-result
-rem-result c = let w = c .before .before .args .width in rw (one-shl w (omega arith)) (pow-pos w)
+rem-result c = let w = c .before .before .args .width in rw (one-shl 32 w (omega arith)) (pow-pos w)
 
 cast-result-3 : tie.Need-cast-result-3
 cast-result-3 c =
     let w = c .before .before .args .width in
-    rw (one-shl w (omega arith)) (record { fits = lt-of-lt-of-le (mod-lt _ (pow-pos w)) (pow-mono (c .before .before .pre)) })
+    rw (one-shl 32 w (omega arith)) (record { fits = lt-of-lt-of-le (mod-lt _ (pow-pos w)) (pow-mono (c .before .before .pre)) })
 
 returns : tie.Need-returns
 returns c =
     let a = c .before .before .args in
     let bytes : Bytes (now (a .bytes)) = record { byte = λ i. c .before .shared-slice-known .given i .fits } in
-    rw (one-shl (a .width) (omega arith), c .window-at .ensures .0) (sym (field-window bytes (a .at) (a .width) (omega arith)))
+    rw (one-shl 32 (a .width) (omega arith), c .window-at .ensures .0) (sym (field-window bytes (a .at) (a .width) (omega arith)))
 
 pub digits-at-spec : {M : Type 1} → statement M
 digits-at-spec =

@@ -61,7 +61,7 @@ shl-result-3 : tie.Need-shl-result-3
 shl-result-3 c = search needs
 
 rem-result : tie.Need-rem-result
-rem-result c = rw (one-shl (c .args .below) (omega arith)) (pow-pos (c .args .below))
+rem-result c = rw (one-shl 32 (c .args .below) (omega arith)) (pow-pos (c .args .below))
 
 add-result-2 : tie.Need-add-result-2
 add-result-2 c =
@@ -69,7 +69,7 @@ add-result-2 c =
     let p = c .pre in
     let high = moved-lt (a .below) (a .width) (p .0) (p .1 .0) (p .1 .1) in
     let small : 2 ^ a .below ≤ 2 ^ 24 = pow-mono {j = 24} (omega arith) in
-    rw (shifts (a .below) (a .width) (p .0) (p .1 .0) (p .1 .1), one-shl (a .below) (omega arith))
+    rw (shifts (a .below) (a .width) (p .0) (p .1 .0) (p .1 .1), one-shl 32 (a .below) (omega arith))
     (record { fits = lt-of-lt-of-le (add-lt-pow 24 high (lt-of-lt-of-le (mod-lt _ (pow-pos (a .below))) small)) (lit≤ tt) })
 
 returns : tie.Need-returns
@@ -77,7 +77,7 @@ unfolding withDigits
 returns c =
     let a = c .args in
     let p = c .pre in
-    rw (shifts (a .below) (a .width) (p .0) (p .1 .0) (p .1 .1), one-shl (a .below) (omega arith))
+    rw (shifts (a .below) (a .width) (p .0) (p .1 .0) (p .1 .1), one-shl 32 (a .below) (omega arith))
     (refl, withDigits-lt (a .old) (a .below) (a .width) (a .value) 24 (p .0) (p .1 .1) (p .1 .0))
 
 pub with-digits-spec : {M : Type 1} → statement M

@@ -2,6 +2,7 @@
 -- into integers.
 use borrow.Author.Needs.{needs}
 use Rattle.rughtena.specs.Answers.{clockOf}
+use Rattle.rughtena.proofs.Device.{exported-says}
 use Rattle.rughtena.proofs.rughtena_step.Statement.{statement}
 use Rattle.rughtena.proofs.rughtena_step.Tie as tie
 
@@ -36,7 +37,7 @@ returns : tie.Need-returns
 unfolding clockOf
 returns c =
     let call = c .before .before .before .before .before .before .before .before .before .step in
-    (call .result, c .of-step .ensures, c .before .move-on .ensures, call .ensures)
+    exported-says _ _ _ _ _ _ (c .of-step .ensures) (c .before .move-on .ensures) (call .ensures)
 
 pub rughtena-step-spec : {M : Type 1} → statement M
 rughtena-step-spec =

@@ -71,7 +71,7 @@ shl-window-2 : tie.Need-shl-window-2 Inv-loop μ-loop
 shl-window-2 c = omega (arith, c .before .loop .inv .few)
 
 rem-window : tie.Need-rem-window Inv-loop μ-loop
-rem-window c = rw (one-shl (c .before .loop .held - 8) (omega (arith, c .before .loop .inv .few))) (pow-pos (c .before .loop .held - 8))
+rem-window c = rw (one-shl 32 (c .before .loop .held - 8) (omega (arith, c .before .loop .inv .few))) (pow-pos (c .before .loop .held - 8))
 
 add-first : tie.Need-add-first Inv-loop μ-loop
 add-first c = let s = c .before .before .before .before in omega (arith, c .before .loop .inv .place, s .pre .1 .1)
@@ -80,7 +80,9 @@ loop-less : tie.Need-loop-less Inv-loop μ-loop
 loop-less c = omega arith
 
 loop-again : tie.Need-loop-again Inv-loop μ-loop
-loop-again c = rw (one-shl (c .before .loop .held - 8) (omega (arith, c .before .loop .inv .few))) (storing-more (c .loop-test .taken) (c .before .loop .inv))
+loop-again c =
+    rw (one-shl 32 (c .before .loop .held - 8) (omega (arith, c .before .loop .inv .few)))
+    (storing-more (c .loop-test .taken) (c .before .loop .inv))
 
 same-length : tie.Need-same-length Inv-loop μ-loop
 same-length c = c .before .loop .inv .long ∙ length-putField (c .before .before .before .before .args .bytes .now) _ _ _

@@ -1,5 +1,5 @@
 -- `switches::halves` meets its contract: between walks whole loops have their chosen halves, a walk gives the lines of one loop
--- theirs, and it ends at the first line that has its half, which is its start.
+-- theirs, and it ends at the first line that has its half, which is its start; so the half with which it leaves is the start's own.
 use Prim.Native.Nat.{ℕ, _+_, _-_, _/_, _≤_}
 use mathlib.Core.Path.{_≡_, ap, _∙_}
 use native.Mathlib.Omega.{arith}
@@ -142,11 +142,18 @@ partner-of-requires-2 c κs = search needs
 value-at-requires-2 : tie.Need-value-at-requires-2 Inv-walk μ-walk Inv-starts μ-starts
 value-at-requires-2 c κs = search needs
 
-array-read-if2 : tie.Need-array-read-if2 Inv-walk μ-walk Inv-starts μ-starts
-array-read-if2 c =
+array-read-met : tie.Need-array-read-met Inv-walk μ-walk Inv-starts μ-starts
+array-read-met c =
     let k = turn-turned c in
     let s = start-turn k in
     omega (arith, goes-below _ _ (s .pre .0) (s .pre .1 .0) (s .pre .1 .1) (s .pre .1 .2) (turning k) (going c), s .pre .1 .1)
+
+array-write-half-3 : tie.Need-array-write-half-3 Inv-walk μ-walk Inv-starts μ-starts
+array-write-half-3 c =
+    let o = begun-turn (turn-turned (c .before)) in
+    let s = start-begun o in
+    let below = start-below _ _ (s .pre .0) (s .pre .1 .0) (s .pre .1 .1) (s .pre .1 .2) _ (o .before .starts-test .taken) in
+    omega (arith, at-start o, below, s .pre .1 .1)
 
 starts-less-2 : tie.Need-starts-less-2 Inv-walk μ-walk Inv-starts μ-starts
 starts-less-2 c = omega arith
@@ -156,7 +163,7 @@ starts-again-2 c =
     let k = turn-turned (c .before) in
     let s = start-turn k in
     let closed = walking-closed _ _ (s .pre .0) (s .pre .1 .0) (s .pre .1 .1) (s .pre .1 .2) (turning k) (going (c .before)) (c .if2 .taken) in
-    (omega arith, closed)
+    (omega arith, rw (at-start (begun-turn k)) closed)
 
 walk-less : tie.Need-walk-less Inv-walk μ-walk Inv-starts μ-starts
 walk-less c =
@@ -197,9 +204,10 @@ halves-spec =
     value-at-requires
     partner-of-requires-2
     value-at-requires-2
-    array-read-if2
-    starts-less-2
-    starts-again-2
+    array-read-met
     walk-less
     walk-again
+    array-write-half-3
+    starts-less-2
+    starts-again-2
     returns)

@@ -3,12 +3,13 @@
 use Prim.Native.Nat.{ℕ, _+_, _*_, _-_}
 use mathlib.Core.Path.{_≡_, refl, ap, ap₂, _∙_}
 use native.Mathlib.Omega.{arith}
+use lib.ListN.{length}
 use Rattle.laws.proofs.Choices.{ifLt-yes, ifLt-no, ifEq-yes, ifEq-no}
 use Rattle.bits.specs.Bits.{field}
 use Rattle.tables.specs.Terms.{cycles, fileLength}
 use Rattle.tables.specs.Format.{lineAt, filling, lengthTest}
 use Rattle.tables.specs.declared.Opened.the-variants.{Set}
-use Rattle.tables.proofs.Dims.{lineAt-few, fileLength-reaches, fileLength-tight}
+use Rattle.tables.proofs.Dims.{lineAt-few, fileLength-reaches, fileLength-tight, fileLength-header}
 use Rattle.tables.proofs.Longest.{lines-longest, fileLength-longest}
 use Rattle.tables.proofs.Opens.{shape-same, shape-total, shape-end}
 use Rattle.tables.proofs.opening.open_whole.Statement.{statement}
@@ -21,7 +22,7 @@ start-else c = c .before .before .before .before
 abbrev start : tie.After-struct-known2 → tie.Start
 start c = start-else (c .before .before)
 
-abbrev start-read : tie.After-field-at → tie.Start
+abbrev start-read : tie.After-last-bits → tie.Start
 start-read c = start (c .before)
 
 -- n and w, and the length that the code works out
@@ -34,16 +35,27 @@ width s = s .args .shape .width
 length-known : (c : tie.After-struct-known2) → c .before .before .before .before .file-length .result ≡ fileLength (words (start c)) (width (start c))
 length-known c = c .before .before .before .before .file-length .ensures
 
+whole-known : (c : tie.After-struct-known2) → length (start c .args .file .now) ≡ fileLength (words (start c)) (width (start c))
+whole-known c = omega (arith, length-known c, c .before .before .before .if1 .left, c .before .before .if2 .left)
+
 end-known : (c : tie.After-struct-known2)
     → let s = start c in
     s .args .shape .start + s .args .shape .cycles * s .args .shape .stride ≡ lineAt (words s) (width s) (cycles (words s) (width s))
 end-known c = shape-end (start c .pre .dims) (shape-same (start c .pre))
 
-filling-known : (c : tie.After-field-at) → c .field-at .result ≡ filling (words (start-read c)) (width (start-read c)) (start-read c .args .file .now)
+filling-known : (c : tie.After-last-bits) → c .last-bits .result ≡ filling (words (start-read c)) (width (start-read c)) (start-read c .args .file .now)
 unfolding filling
 filling-known c =
-    c .field-at .ensures
-    ∙ ap₂ (λ (at long : ℕ). field (start-read c .args .file .now) at (8 * long - at)) (end-known (c .before)) (length-known (c .before))
+    let d = c .before in
+    let s = start d in
+    let file = s .args .file .now in
+    let known = d .before .before .before .before .file-length .result in
+    let end = s .args .shape .start + s .args .shape .cycles * s .args .shape .stride in
+    let long : 8 * known - end ≡ 8 * fileLength (words s) (width s) - lineAt (words s) (width s) (cycles (words s) (width s)) =
+    omega (arith, end-known d, length-known d) in
+    let at : 8 * length file - (8 * known - end) ≡ lineAt (words s) (width s) (cycles (words s) (width s)) =
+    omega (arith, whole-known d, end-known d, length-known d, fileLength-reaches (words s) (width s)) in
+    c .last-bits .ensures ∙ ap₂ (λ (at long : ℕ). field file at long) at long
 
 file-length-requires : tie.Need-file-length-requires
 file-length-requires c κs = c .before .pre
@@ -66,14 +78,17 @@ mul-end c =
 add-end : tie.Need-add-end
 add-end c = let P = start c .pre in omega (arith, end-known c, lineAt-few (P .dims) (cycles (words (start c)) (width (start c))) (omega arith))
 
-mul-field-at : tie.Need-mul-field-at
-mul-field-at c = omega (arith, length-known c, fileLength-longest (start c .pre .dims))
+mul-last-bits : tie.Need-mul-last-bits
+mul-last-bits c = omega (arith, length-known c, fileLength-longest (start c .pre .dims))
 
-sub-field-at : tie.Need-sub-field-at
-sub-field-at c = omega (arith, end-known c, length-known c, fileLength-reaches (words (start c)) (width (start c)))
+sub-last-bits : tie.Need-sub-last-bits
+sub-last-bits c = omega (arith, end-known c, length-known c, fileLength-reaches (words (start c)) (width (start c)))
 
-field-at-requires : tie.Need-field-at-requires
-field-at-requires c κs = omega (arith, end-known c, length-known c, fileLength-tight (words (start c)) (width (start c)))
+last-bits-requires : tie.Need-last-bits-requires
+last-bits-requires c κs = (
+  omega (arith, whole-known c, fileLength-header (words (start c)) (width (start c))),
+  omega (arith, end-known c, length-known c, fileLength-tight (words (start c)) (width (start c))),
+)
 
 returns-3 : tie.Need-returns-3
 unfolding lengthTest
@@ -100,8 +115,8 @@ open-whole-spec =
     returns-2
     mul-end
     add-end
-    mul-field-at
-    sub-field-at
-    field-at-requires
+    mul-last-bits
+    sub-last-bits
+    last-bits-requires
     returns-3
     returns-4)

@@ -1,0 +1,380 @@
+-- Document 01's examples, and beside them entries for every refusal, each with its place: what is asked of the definitions that the contracts
+-- of the calls cite, and what they have to say. One list; `examples-hold` computes all of it.
+use Prim.Native.Nat.{ℕ}
+use mathlib.Core.Path.{_≡_}
+use mathlib.Core.List.{List, [], _∷_, _++_, map}
+use lib.ListN.{getD, replicate}
+use Rattle.laws.specs.Tabulate.{tabulate}
+use Rattle.refusal.specs.Replies.{Reply, accepts, refuses}
+use Rattle.images.specs.Images.{orderOf}
+use Rattle.images.specs.declared.Checked.{Checked}
+use Rattle.images.specs.declared.Checked.the-variants.{Permutation, Refused as Unfit}
+use Rattle.setting.specs.Calls.{SetOutcome, setOutcome, settingOf, settingReply}
+use Rattle.passing.specs.Calls.{followOf, followedReply}
+use Rattle.tables.specs.Terms.{cycles, switchBits, fileLength}
+use Rattle.tables.specs.Format.{readAddress, switchBit, writeAddress}
+use Rattle.tables.specs.Generated.{setOf}
+use Rattle.tables.specs.Reading.{ReadOutcome, readOutcome, readOf, readingReply}
+use Rattle.generator.specs.Generating.{extentOf, checksOf, generationReply}
+use Rattle.generator.specs.declared.Generation.{Generation}
+use Rattle.generator.specs.declared.Generation.the-variants.{Written as Made, Refused as Unmade}
+use Rattle.machine.specs.Devices.{Feed, feed, Seen, seen, filling, wrote, refused, run}
+use Rattle.machine.specs.Step.{fresh, StepOutcome, stepOutcome, stepOf}
+use Rattle.machine.specs.Machine.{machine, stepReply}
+use Rattle.machine.specs.Plain.{plain, empty}
+use Rattle.machine.specs.declared.Clock.{Clock}
+
+-- ---- questions and answers
+
+pub data Question : Type 0 where
+  -- generating for n, w and images, with so many bytes for the file and so many scratch words
+  generating : ℕ → ℕ → List ℕ → ℕ → ℕ → Question
+  -- reading a file, with these images and so many scratch words lent
+  reading : List ℕ → List ℕ → ℕ → Question
+  -- setting a network of this width for images, with these values lent
+  setting : ℕ → List ℕ → List ℕ → Question
+  -- following, through a network of this width with these values, a line
+  following : ℕ → List ℕ → ℕ → Question
+  -- a step on a file at a clock, with the two memories, the entering words and the output memory
+  stepping : List ℕ → Clock → List ℕ → List ℕ → List ℕ → List ℕ → Question
+  -- the cycle machine on a file, from a fresh clock, with two memories of so many zero words, over a list of steps
+  running : List ℕ → ℕ → List Feed → Question
+  -- the plain rule for n, w and images over a list of steps
+  reordering : ℕ → ℕ → List ℕ → List Feed → Question
+  -- the set for n, w and images that these read lines determine. In a frame of one cycle every read address is 0, and none need be listed:
+  -- generating gives this set (`one-cycle`)
+  making : ℕ → ℕ → List ℕ → List (List ℕ) → Question
+  -- the read lines, the switch bits and the write lines that stand in a set of n words and width w
+  readLines : ℕ → ℕ → List ℕ → Question
+  switchLines : ℕ → ℕ → List ℕ → Question
+  writeLines : ℕ → ℕ → List ℕ → Question
+  -- the length of a set of n words and width w
+  measuring : ℕ → ℕ → Question
+
+pub data Answer : Type 0 where
+  -- a call's reply, and afterwards the list that it writes: the images, the values or the output memory (none in generating and following)
+  says : Reply → List ℕ → Answer
+  -- what each step of a list shows
+  shows : List Seen → Answer
+  -- a file, the lines of one, its length
+  bytes : List ℕ → Answer
+  lines : List (List ℕ) → Answer
+  long : ℕ → Answer
+
+-- what generating answers once its tests are done: `Generates` says so of the call (`generation-answers`)
+abbrev pub generationOf : Checked → ℕ → ℕ → Generation
+generationOf Permutation n w = Made (extentOf n w)
+generationOf (Unfit r) n w = Unmade r
+
+abbrev pub readSays : ReadOutcome → Answer
+readSays (readOutcome told images) = says (readingReply told) images
+
+abbrev pub setSays : SetOutcome → Answer
+setSays (setOutcome told values) = says (settingReply told) values
+
+abbrev pub stepSays : StepOutcome → Answer
+stepSays (stepOutcome told first second out) = says (stepReply told) out
+
+-- the address that bank b reads in line t, 0 where none is listed
+abbrev pub listed : List (List ℕ) → ℕ → ℕ → ℕ
+listed reads t b = getD (getD reads t []) b 0
+
+unfoldable pub answer : Question → Answer
+answer (generating n w images room scratch) = says (generationReply (generationOf (checksOf n w images room scratch) n w)) []
+answer (reading file images scratch) = readSays (readOf file images (replicate scratch 0))
+answer (setting width images values) = setSays (settingOf width images values)
+answer (following width values line) = says (followedReply (followOf width values line)) []
+answer (stepping file clock first second words out) = stepSays (stepOf file clock first second words out)
+answer (running file size steps) =
+    shows (run (machine file) (record { clock = fresh; first = replicate size 0; second = replicate size 0 }) steps)
+answer (reordering n w images steps) = shows (run (plain n w (orderOf n images)) empty steps)
+answer (making n w images reads) = bytes (setOf n w (orderOf n images) (listed reads))
+answer (readLines n w file) = lines (tabulate (cycles n w) (λ t. tabulate w (readAddress n w file t)))
+answer (switchLines n w file) = lines (tabulate (cycles n w) (λ t. tabulate (switchBits w) (switchBit n w file t)))
+answer (writeLines n w file) = lines (tabulate (cycles n w) (λ t. tabulate w (writeAddress n w file t)))
+answer (measuring n w) = long (fileLength n w)
+
+pub record Example : Type 0 where
+  pub question : Question
+  pub reply : Answer
+
+abbrev pub asks : Question → Answer → Example
+asks q a = record { question = q; reply = a }
+
+-- a refusal's number and place, of each call; the lent list stays as it was
+abbrev pub generatingRefused : ℕ → ℕ → List ℕ → ℕ → ℕ → ℕ → ℕ → Example
+generatingRefused n w images room scratch number place = asks (generating n w images room scratch) (says (refuses number place) [])
+
+abbrev pub readingRefused : List ℕ → List ℕ → ℕ → ℕ → ℕ → Example
+readingRefused file images scratch number place = asks (reading file images scratch) (says (refuses number place) images)
+
+abbrev pub settingRefused : ℕ → List ℕ → List ℕ → ℕ → ℕ → Example
+settingRefused width images values number place = asks (setting width images values) (says (refuses number place) values)
+
+abbrev pub followingRefused : ℕ → List ℕ → ℕ → ℕ → ℕ → Example
+followingRefused width values line number place = asks (following width values line) (says (refuses number place) [])
+
+abbrev pub steppingRefused : List ℕ → Clock → List ℕ → List ℕ → List ℕ → List ℕ → ℕ → ℕ → Example
+steppingRefused file clock first second words out number place =
+    asks (stepping file clock first second words out) (says (refuses number place) out)
+
+-- ---- the marked examples
+
+-- document 002's order of 12 words, the set of example 4, and its lines
+abbrev pub order12 : List ℕ
+order12 = 3 ∷ 7 ∷ 1 ∷ 2 ∷ 6 ∷ 0 ∷ 11 ∷ 9 ∷ 4 ∷ 10 ∷ 8 ∷ 5 ∷ []
+
+abbrev pub set12 : List ℕ
+set12 = 0x00 ∷ 0x60 ∷ 0x30 ∷ 0x0C ∷ 0x0C ∷ 0xA8 ∷ 0x58 ∷ 0x2A ∷ 0x2E ∷ 0xFE ∷ 0xD0 ∷ 0xE0 ∷ []
+
+abbrev pub reads12 : List (List ℕ)
+reads12 = (0 ∷ 0 ∷ 3 ∷ []) ∷ (1 ∷ 1 ∷ 0 ∷ []) ∷ (2 ∷ 2 ∷ 2 ∷ []) ∷ (3 ∷ 3 ∷ 1 ∷ []) ∷ []
+
+abbrev pub switches12 : List (List ℕ)
+switches12 = (0 ∷ 0 ∷ 0 ∷ 0 ∷ 0 ∷ []) ∷ (0 ∷ 0 ∷ 1 ∷ 0 ∷ 1 ∷ []) ∷ (0 ∷ 0 ∷ 1 ∷ 0 ∷ 1 ∷ []) ∷ (1 ∷ 0 ∷ 1 ∷ 0 ∷ 0 ∷ []) ∷ []
+
+abbrev pub writes12 : List (List ℕ)
+writes12 = (1 ∷ 2 ∷ 1 ∷ []) ∷ (2 ∷ 0 ∷ 0 ∷ []) ∷ (3 ∷ 1 ∷ 3 ∷ []) ∷ (0 ∷ 3 ∷ 2 ∷ []) ∷ []
+
+-- three words that enter, and three words of output memory
+abbrev pub enters : ℕ → ℕ → ℕ → Feed
+enters x y z = feed (x ∷ y ∷ z ∷ []) (replicate 3 7)
+
+-- two frames enter, with two steps between them that are refused, and the first words of a third
+abbrev pub steps12 : List Feed
+steps12 =
+    enters 0 1 2
+    ∷ enters 3 4 5
+    ∷ enters 6 7 8
+    ∷ enters 9 10 11
+    ∷ feed (20 ∷ 21 ∷ 22 ∷ []) (7 ∷ 7 ∷ [])
+    ∷ feed (20 ∷ 21 ∷ []) (7 ∷ 7 ∷ 7 ∷ [])
+    ∷ enters 20 21 22
+    ∷ enters 23 24 25
+    ∷ enters 26 27 28
+    ∷ enters 29 30 31
+    ∷ enters 40 41 42
+    ∷ []
+
+-- filling, with the output memory as it was
+abbrev pub fills : Seen
+fills = seen filling (replicate 3 7)
+
+-- after 2c = 8 accepted steps the first three words of the reordered first frame leave
+abbrev pub shown12 : List Seen
+shown12 =
+    fills
+    ∷ fills
+    ∷ fills
+    ∷ fills
+    ∷ seen (refused 12 0) (7 ∷ 7 ∷ [])
+    ∷ seen (refused 13 0) (7 ∷ 7 ∷ 7 ∷ [])
+    ∷ fills
+    ∷ fills
+    ∷ fills
+    ∷ fills
+    ∷ seen wrote (5 ∷ 2 ∷ 3 ∷ [])
+    ∷ []
+
+abbrev pub marked : List Example
+marked =
+    -- 1 to 3: the smallest sets, made and read
+    asks (making 1 1 (0 ∷ []) []) (bytes (0x00 ∷ 0x08 ∷ 0x10 ∷ []))
+    ∷ asks (making 2 2 (0 ∷ 1 ∷ []) []) (bytes (0x00 ∷ 0x10 ∷ 0x20 ∷ 0x00 ∷ []))
+    ∷ asks (making 2 2 (1 ∷ 0 ∷ []) []) (bytes (0x00 ∷ 0x10 ∷ 0x20 ∷ 0x80 ∷ []))
+    ∷ asks (reading (0x00 ∷ 0x08 ∷ 0x10 ∷ []) (7 ∷ []) 2) (says (accepts (1 ∷ 1 ∷ [])) (0 ∷ []))
+    ∷ asks (reading (0x00 ∷ 0x10 ∷ 0x20 ∷ 0x00 ∷ []) (7 ∷ 7 ∷ []) 4) (says (accepts (2 ∷ 2 ∷ [])) (0 ∷ 1 ∷ []))
+    ∷ asks (reading (0x00 ∷ 0x10 ∷ 0x20 ∷ 0x80 ∷ []) (7 ∷ 7 ∷ []) 4) (says (accepts (2 ∷ 2 ∷ [])) (1 ∷ 0 ∷ []))
+    -- 4: the order of 12 words. The set is accepted, has these lines, and its read lines and the order determine it; generating accepts the order
+    ∷ asks (reading set12 (replicate 12 0) 24) (says (accepts (12 ∷ 3 ∷ [])) order12)
+    ∷ asks (readLines 12 3 set12) (lines reads12)
+    ∷ asks (switchLines 12 3 set12) (lines switches12)
+    ∷ asks (writeLines 12 3 set12) (lines writes12)
+    ∷ asks (making 12 3 order12 reads12) (bytes set12)
+    ∷ asks (generating 12 3 order12 12 1072) (says (accepts (12 ∷ [])) [])
+    -- that set on the machine, and its order by the plain rule
+    ∷ asks (running set12 24 steps12) (shows shown12)
+    ∷ asks (reordering 12 3 order12 steps12) (shows shown12)
+    -- 5 to 7: that set without its last byte, with E1 last, with 31 third
+    ∷ readingRefused (0x00 ∷ 0x60 ∷ 0x30 ∷ 0x0C ∷ 0x0C ∷ 0xA8 ∷ 0x58 ∷ 0x2A ∷ 0x2E ∷ 0xFE ∷ 0xD0 ∷ []) (replicate 12 0) 24 6 0
+    ∷ readingRefused (0x00 ∷ 0x60 ∷ 0x30 ∷ 0x0C ∷ 0x0C ∷ 0xA8 ∷ 0x58 ∷ 0x2A ∷ 0x2E ∷ 0xFE ∷ 0xD0 ∷ 0xE1 ∷ []) (replicate 12 0) 24 8 0
+    ∷ readingRefused (0x00 ∷ 0x60 ∷ 0x31 ∷ 0x0C ∷ 0x0C ∷ 0xA8 ∷ 0x58 ∷ 0x2A ∷ 0x2E ∷ 0xFE ∷ 0xD0 ∷ 0xE0 ∷ []) (replicate 12 0) 24 7 0
+    -- 8 and 11 to 13: no words, a width that does not divide, images that repeat or stray
+    ∷ generatingRefused 0 1 [] 3 1024 1 0
+    ∷ generatingRefused 10 3 (0 ∷ 1 ∷ 2 ∷ 3 ∷ 4 ∷ 5 ∷ 6 ∷ 7 ∷ 8 ∷ 9 ∷ []) 20 1064 3 0
+    ∷ generatingRefused 2 1 (0 ∷ 0 ∷ []) 4 1032 5 1
+    ∷ generatingRefused 2 1 (2 ∷ 0 ∷ []) 4 1032 4 0
+    -- "The longest is 12,291 (n 4,096, width 1)"
+    ∷ asks (measuring 4096 1) (long 12291)
+    ∷ []
+
+-- ---- generating: "1, 2, 3, 12, then 4 and 5 by rising i"
+
+abbrev pub generatings : List Example
+generatings =
+    -- 1 before 2: n 4,097, and n 0 with width 0; 2: width 0, and width 65
+    generatingRefused 4097 1 [] 0 0 1 0
+    ∷ generatingRefused 0 0 [] 0 0 1 0
+    ∷ generatingRefused 2 0 (0 ∷ 1 ∷ []) 4 1032 2 0
+    ∷ generatingRefused 130 65 [] 0 0 2 0
+    -- n 4,096 and width 64 pass (12: no memory is lent)
+    ∷ generatingRefused 4096 1 [] 0 0 12 0
+    ∷ generatingRefused 128 64 [] 0 0 12 0
+    -- 3 before 12; 12, before 4, for images, file and scratch one short
+    ∷ generatingRefused 10 3 [] 0 0 3 0
+    ∷ generatingRefused 2 1 (9 ∷ []) 4 1032 12 0
+    ∷ generatingRefused 2 1 (9 ∷ 1 ∷ []) 3 1032 12 0
+    ∷ generatingRefused 2 1 (9 ∷ 1 ∷ []) 4 1031 12 0
+    -- the exact need is enough, and an image list longer than needed is read no further
+    ∷ asks (generating 2 1 (1 ∷ 0 ∷ 9 ∷ []) 4 1032) (says (accepts (4 ∷ [])) [])
+    -- a 5 at a lower i before a 4 at a higher one, and the other way round
+    ∷ generatingRefused 3 1 (0 ∷ 0 ∷ 9 ∷ []) 5 1036 5 1
+    ∷ generatingRefused 3 1 (0 ∷ 9 ∷ 0 ∷ []) 5 1036 4 1
+    ∷ []
+
+-- ---- the network by itself
+
+-- a line of example 4: 0 leaves on 1, 1 on 2, 2 on 0, and line 3 is carried to itself
+abbrev pub turn4 : List ℕ
+turn4 = 1 ∷ 2 ∷ 0 ∷ 3 ∷ []
+
+abbrev pub networks : List Example
+networks =
+    -- set, and followed through the values; words beyond the need stay, and more values than B are ignored
+    asks (setting 1 (0 ∷ []) []) (says (accepts (0 ∷ [])) [])
+    ∷ asks (setting 2 (1 ∷ 0 ∷ []) (7 ∷ 7 ∷ [])) (says (accepts (1 ∷ [])) (1 ∷ 7 ∷ []))
+    ∷ asks (setting 4 turn4 (replicate 5 7)) (says (accepts (5 ∷ [])) (1 ∷ 0 ∷ 1 ∷ 0 ∷ 0 ∷ []))
+    ∷ asks (following 1 [] 0) (says (accepts (0 ∷ [])) [])
+    ∷ asks (following 4 (1 ∷ 0 ∷ 1 ∷ 0 ∷ 0 ∷ []) 0) (says (accepts (1 ∷ [])) [])
+    ∷ asks (following 4 (1 ∷ 0 ∷ 1 ∷ 0 ∷ 0 ∷ []) 1) (says (accepts (2 ∷ [])) [])
+    ∷ asks (following 4 (1 ∷ 0 ∷ 1 ∷ 0 ∷ 0 ∷ []) 2) (says (accepts (0 ∷ [])) [])
+    ∷ asks (following 4 (1 ∷ 0 ∷ 1 ∷ 0 ∷ 0 ∷ 9 ∷ []) 3) (says (accepts (3 ∷ [])) [])
+    -- setting, "2, 12, then 4 and 5 by rising i": 2 before 12; 12, before 4, for images and values one short
+    ∷ settingRefused 3 [] [] 2 0
+    ∷ settingRefused 4 (9 ∷ 1 ∷ 2 ∷ []) (replicate 5 7) 12 0
+    ∷ settingRefused 4 (9 ∷ 1 ∷ 2 ∷ 3 ∷ []) (replicate 4 7) 12 0
+    -- 4 with its place, 5 with its place, and a 5 before a later 4
+    ∷ settingRefused 4 (0 ∷ 1 ∷ 4 ∷ 3 ∷ []) (replicate 5 7) 4 2
+    ∷ settingRefused 4 (0 ∷ 1 ∷ 2 ∷ 0 ∷ []) (replicate 5 7) 5 3
+    ∷ settingRefused 4 (0 ∷ 0 ∷ 9 ∷ 3 ∷ []) (replicate 5 7) 5 1
+    -- following, "2, 12, 15, then 4": 2 before 12; 12 before 15; 15 with its place, before 4; 4 with the line as place
+    ∷ followingRefused 3 [] 9 2 0
+    ∷ followingRefused 4 (2 ∷ 2 ∷ 2 ∷ 2 ∷ []) 9 12 0
+    ∷ followingRefused 4 (1 ∷ 0 ∷ 2 ∷ 0 ∷ 2 ∷ []) 0 15 2
+    ∷ followingRefused 4 (1 ∷ 0 ∷ 1 ∷ 0 ∷ 2 ∷ []) 9 15 4
+    ∷ followingRefused 4 (1 ∷ 0 ∷ 1 ∷ 0 ∷ 0 ∷ []) 4 4 4
+    ∷ followingRefused 4 (1 ∷ 0 ∷ 1 ∷ 0 ∷ 0 ∷ []) 9 4 9
+    ∷ []
+
+-- ---- reading: "6 for the header, 7, 6 for the whole, 8, 12, then line by line 9, 10, 11"
+
+-- frames of 3 words at width 1, whose lines have a read and a write address of 2 bits: 3 is an address of c or more
+abbrev pub set3 : ℕ → ℕ → List ℕ
+set3 x y = 0x00 ∷ 0x18 ∷ 0x10 ∷ x ∷ y ∷ []
+
+-- frames of 6 words at width 3, whose lines have three read addresses of 1 bit, 5 switch bits and three write addresses
+abbrev pub set6 : ℕ → ℕ → ℕ → List ℕ
+set6 x y z = 0x00 ∷ 0x30 ∷ 0x30 ∷ x ∷ y ∷ z ∷ []
+
+abbrev pub readings : List Example
+readings =
+    -- accepted: read and written at 0, 1, 2. Words beyond the need stay
+    asks (reading (set3 0x05 0xA0) (replicate 4 7) 6) (says (accepts (3 ∷ 1 ∷ [])) (0 ∷ 1 ∷ 2 ∷ 7 ∷ []))
+    -- 6: two bytes; 7: n 0, n 4,097, width 0, width 65, a width that does not divide, each before 6 for the whole
+    ∷ readingRefused (0x00 ∷ 0x00 ∷ []) [] 0 6 0
+    ∷ readingRefused (0x00 ∷ 0x00 ∷ 0x10 ∷ []) [] 0 7 0
+    ∷ readingRefused (0x80 ∷ 0x08 ∷ 0x10 ∷ []) [] 0 7 0
+    ∷ readingRefused (0x00 ∷ 0x08 ∷ 0x00 ∷ []) [] 0 7 0
+    ∷ readingRefused (0x04 ∷ 0x14 ∷ 0x10 ∷ []) [] 0 7 0
+    ∷ readingRefused (0x00 ∷ 0x50 ∷ 0x30 ∷ []) [] 0 7 0
+    -- 8, before 12: a byte follows, a filling bit is set; 12, before 9, for images and scratch one short
+    ∷ readingRefused (0x00 ∷ 0x18 ∷ 0x10 ∷ 0x05 ∷ 0xA0 ∷ 0x00 ∷ []) [] 0 8 0
+    ∷ readingRefused (set3 0x05 0xA1) [] 0 8 0
+    ∷ readingRefused (set3 0x0D 0xA0) (replicate 2 7) 6 12 0
+    ∷ readingRefused (set3 0x0D 0xA0) (replicate 3 7) 5 12 0
+    -- 9 in line 1, by range and by repetition
+    ∷ readingRefused (set3 0x0D 0xA0) (replicate 3 7) 6 9 1
+    ∷ readingRefused (set3 0x01 0xA0) (replicate 3 7) 6 9 1
+    -- 11 in line 2, by range and by repetition
+    ∷ readingRefused (set3 0x05 0xB0) (replicate 3 7) 6 11 2
+    ∷ readingRefused (set3 0x05 0x80) (replicate 3 7) 6 11 2
+    -- an 11 in line 0 before a 9 in line 1
+    ∷ readingRefused (set3 0x3D 0xA0) (replicate 3 7) 6 11 0
+    -- 10 in line 1, whose network carries line 2 to line 3; with a repeated write address too, still 10; with all three faults, 9
+    ∷ asks (reading (set6 0x00 0x1C 0x1C) (replicate 6 7) 12) (says (accepts (6 ∷ 3 ∷ [])) (0 ∷ 1 ∷ 2 ∷ 3 ∷ 4 ∷ 5 ∷ []))
+    ∷ readingRefused (set6 0x00 0x1D 0x1C) (replicate 6 7) 12 10 1
+    ∷ readingRefused (set6 0x00 0x1D 0x0C) (replicate 6 7) 12 10 1
+    ∷ readingRefused (set6 0x00 0x0D 0x0C) (replicate 6 7) 12 9 1
+    ∷ []
+
+-- ---- a step: "6, 7, 6, 8, 12, 13, 14; then, if fill is at least 1, the range part of 9, then 10, then the range part of 11, for its own line"
+
+abbrev pub clockOf : ℕ → ℕ → ℕ → Clock
+clockOf t h fill = record { cycle = t; half = h; fill = fill }
+
+-- two memories of 6 words
+abbrev pub first3 : List ℕ
+first3 = 10 ∷ 11 ∷ 12 ∷ 13 ∷ 14 ∷ 15 ∷ []
+
+abbrev pub second3 : List ℕ
+second3 = 20 ∷ 21 ∷ 22 ∷ 23 ∷ 24 ∷ 25 ∷ []
+
+-- a step on a set of 3 words at width 1 with all that it needs: accepted with these values, or refused
+abbrev pub stepAccepted : List ℕ → Clock → List ℕ → List ℕ → Example
+stepAccepted file clock values out = asks (stepping file clock first3 second3 (9 ∷ []) (7 ∷ 7 ∷ [])) (says (accepts values) out)
+
+abbrev pub stepRefused : List ℕ → Clock → ℕ → ℕ → Example
+stepRefused file clock number place = steppingRefused file clock first3 second3 (9 ∷ []) (7 ∷ 7 ∷ []) number place
+
+-- a step on a set of width 3 with memories of so many words
+abbrev pub wideRefused : List ℕ → ℕ → Clock → ℕ → ℕ → Example
+wideRefused file size clock number place =
+    steppingRefused file clock (replicate size 0) (replicate size 0) (replicate 3 9) (replicate 3 7) number place
+
+abbrev pub steps : List Example
+steps =
+    -- `filling` (0), with the next clock: within a frame, and at a frame's end. Then w words are written (1): word 22 is at address 2 of half 0
+    stepAccepted (set3 0x05 0xA0) fresh (0 ∷ 1 ∷ 0 ∷ 0 ∷ []) (7 ∷ 7 ∷ [])
+    ∷ stepAccepted (set3 0x05 0xA0) (clockOf 2 0 0) (0 ∷ 0 ∷ 1 ∷ 1 ∷ []) (7 ∷ 7 ∷ [])
+    ∷ stepAccepted (set3 0x05 0xA0) (clockOf 2 1 2) (1 ∷ 0 ∷ 0 ∷ 2 ∷ []) (22 ∷ 7 ∷ [])
+    -- 6, 7, 6, 8, before 12
+    ∷ steppingRefused (0x00 ∷ 0x18 ∷ []) fresh [] [] [] [] 6 0
+    ∷ steppingRefused (0x00 ∷ 0x18 ∷ 0x11 ∷ []) fresh [] [] [] [] 7 0
+    ∷ steppingRefused (0x00 ∷ 0x18 ∷ 0x10 ∷ 0x05 ∷ []) fresh [] [] [] [] 6 0
+    ∷ steppingRefused (set3 0x05 0xA8) fresh [] [] [] [] 8 0
+    -- 12, before 13, for the memories and the output one short
+    ∷ steppingRefused (set3 0x05 0xA0) fresh (replicate 5 0) second3 [] (7 ∷ []) 12 0
+    ∷ steppingRefused (set3 0x05 0xA0) fresh first3 (replicate 5 0) [] (7 ∷ []) 12 0
+    ∷ steppingRefused (set3 0x05 0xA0) fresh first3 second3 [] [] 12 0
+    -- 13, before 14, for a word too few and one too many
+    ∷ steppingRefused (set3 0x05 0xA0) (clockOf 3 0 0) first3 second3 [] (7 ∷ []) 13 0
+    ∷ steppingRefused (set3 0x05 0xA0) fresh first3 second3 (8 ∷ 9 ∷ []) (7 ∷ []) 13 0
+    -- 14, before 9: t of c, h above 1, fill above 2
+    ∷ stepRefused (set3 0x05 0xA0) (clockOf 3 0 0) 14 0
+    ∷ stepRefused (set3 0x05 0xA0) (clockOf 0 2 0) 14 0
+    ∷ stepRefused (set3 0x0D 0xA0) (clockOf 1 0 3) 14 0
+    -- 9 by range in line 1: not looked at while fill is 0, nor by a step of another line
+    ∷ stepRefused (set3 0x0D 0xA0) (clockOf 1 0 1) 9 1
+    ∷ stepAccepted (set3 0x0D 0xA0) (clockOf 1 0 0) (0 ∷ 2 ∷ 0 ∷ 0 ∷ []) (7 ∷ 7 ∷ [])
+    ∷ stepAccepted (set3 0x0D 0xA0) (clockOf 2 0 1) (0 ∷ 0 ∷ 1 ∷ 2 ∷ []) (7 ∷ 7 ∷ [])
+    -- 11 by range in line 2
+    ∷ stepRefused (set3 0x05 0xB0) (clockOf 2 0 1) 11 2
+    -- repeated addresses, read in line 1 and written in line 2, are not looked for
+    ∷ stepAccepted (set3 0x01 0xA0) (clockOf 1 0 1) (0 ∷ 2 ∷ 0 ∷ 1 ∷ []) (7 ∷ 7 ∷ [])
+    ∷ stepAccepted (set3 0x05 0x80) (clockOf 2 0 1) (0 ∷ 0 ∷ 1 ∷ 2 ∷ []) (7 ∷ 7 ∷ [])
+    -- 10 in line 1, and with two repeated addresses too
+    ∷ wideRefused (set6 0x00 0x1D 0x1C) 12 (clockOf 1 0 1) 10 1
+    ∷ wideRefused (set6 0x00 0x0D 0x0C) 12 (clockOf 1 0 1) 10 1
+    -- frames of 9 words at width 3: line 1 has a 9, a 10 and an 11 by range; then no 9
+    ∷ wideRefused (0x00 ∷ 0x48 ∷ 0x30 ∷ 0x00 ∷ 0x00 ∷ 0x6A ∷ 0x8D ∷ 0x6A ∷ 0x05 ∷ 0x40 ∷ []) 18 (clockOf 1 0 1) 9 1
+    ∷ wideRefused (0x00 ∷ 0x48 ∷ 0x30 ∷ 0x00 ∷ 0x00 ∷ 0x2A ∷ 0x8D ∷ 0x6A ∷ 0x05 ∷ 0x40 ∷ []) 18 (clockOf 1 0 1) 10 1
+    ∷ []
+
+-- ---- all of them
+
+unfoldable pub examples : List Example
+examples = marked ++ (generatings ++ (networks ++ (readings ++ steps)))
+
+-- each question, computed, has the answer listed
+abbrev pub ExamplesHold : Type 0
+ExamplesHold = map (λ (e : Example). answer (e .question)) examples ≡ map (λ (e : Example). e .reply) examples
