@@ -7,11 +7,11 @@ enum { N = 12, W = 3, FRAMES = 4 };
 
 int main(void) {
     const uint16_t order[N] = {3, 7, 1, 2, 6, 0, 11, 9, 4, 10, 8, 5};
-    uint8_t file[RUGHTENA_LONGEST_SET];
+    uint8_t file[RUGHTENA_SET_LENGTH(N, W)];
     uint16_t scratch[RUGHTENA_GENERATE_SCRATCH(N)];
     rughtena_answer made = rughtena_generate(N, W, order, N, file, sizeof file, scratch, RUGHTENA_GENERATE_SCRATCH(N));
     if (made.number != 0) {
-        printf("refused %zu at %zu\n", made.number, made.value);
+        printf("refused %zu at %zu: %s\n", made.number, made.value, RUGHTENA_TEXT(made.number));
         return 1;
     }
     printf("a set of %zu bytes\n", made.value);
@@ -34,7 +34,7 @@ int main(void) {
         rughtena_answer answer =
             rughtena_step(file, made.value, &clock, first, 2 * N, second, 2 * N, words, W, out, W);
         if (answer.number != 0) {
-            printf("refused %zu at %zu\n", answer.number, answer.value);
+            printf("refused %zu at %zu: %s\n", answer.number, answer.value, RUGHTENA_TEXT(answer.number));
             return 1;
         }
         if (answer.value == 1) {

@@ -1,6 +1,13 @@
 /* Table sets for the streaming reorder card: generating, reading, the switch network, and one step of the cycle machine.
  *
- * Link with librughtena.a (`rt staticlib rughtena` writes target/staticlib/librughtena.a, for x86-64).
+ * Link with librughtena.a. `rt staticlib rughtena` writes it to target/staticlib, `make install` installs it beside this header.
+ *
+ * The library is an ELF object for x86-64 with SSE2, without wider vector registers, by the System V calling convention; it may stand in a
+ * position-independent program. It calls memcpy and memset and nothing else, and has no writable data, so it runs without an operating
+ * system where those two are there.
+ *
+ * Stack memory, whatever n and w are (measured, with some room; docs/PERFORMANCE.md has the figures):
+ *    rughtena_generate 20 KiB, rughtena_read 19 KiB, rughtena_set 7 KiB, rughtena_follow 1 KiB, rughtena_step 3 KiB
  *
  * Every call is proved to meet its contract for every argument, so a caller tests nothing first. What the caller owes is C's own
  * part: a pointer is not null, is aligned for its type and points to as many elements as the length beside it says, and memory that a
@@ -8,24 +15,11 @@
  * run at the same time on memory of their own.
  *
  * Terms: n words in a frame, 1 to 4,096; w words enter in each cycle, 1 to 64, and w divides n; c = n / w cycles; word i leaves at place
- * images[i].
+ * images[i]. a: the bits of an address, the least whole number with 2^a at least c (0 when c is 1). B: the switch bits of a network whose
+ * lines are the least power of two not below w. Line t of a set: its addresses and switch bits for cycle t.
  *
- * Refusals. A refused call alters no lent word, scratch included. Its number says why, its place where (0 if nothing is named):
- *    1  n is 0 or above 4,096
- *    2  the width is 0 or above 64; for the network alone, no power of two up to 64
- *    3  w does not divide n
- *    4  image i is n or more; place i. A followed line is the width or more; place the line
- *    5  image i was already an earlier one; place i
- *    6  the file is shorter than its header, or than its header says
- *    7  the header breaks a limit, w does not divide n, or one of its four last bits is set
- *    8  bytes follow the set, or a filling bit is set
- *    9  a read address of line t is c or more, or that bank has read it before; place t
- *   10  the network of line t carries a line below w to w or above; place t
- *   11  a write address of line t is c or more, or that bank has taken it before; place t
- *   12  a lent buffer is shorter than needed
- *   13  a step is given other than w words
- *   14  the clock has a cycle of c or more, a half above 1 or a fill above 2
- *   15  a switch value is neither 0 nor 1; place its position
+ * Refusals. A refused call alters no lent word, scratch included. Its number says why (enum rughtena_refusal), its place where (0 if the
+ * number names none).
  */
 #ifndef RUGHTENA_H
 #define RUGHTENA_H
@@ -37,21 +31,102 @@
 extern "C" {
 #endif
 
+/* The version of this header. RUGHTENA_VERSION is one number, which grows with each version. */
+#define RUGHTENA_VERSION_MAJOR 0
+#define RUGHTENA_VERSION_MINOR 2
+#define RUGHTENA_VERSION_PATCH 0
+#define RUGHTENA_VERSION (RUGHTENA_VERSION_MAJOR * 10000 + RUGHTENA_VERSION_MINOR * 100 + RUGHTENA_VERSION_PATCH)
+
 /* The most words of a frame, and the most words of a cycle. */
 #define RUGHTENA_MOST_WORDS 4096
 #define RUGHTENA_MOST_WIDTH 64
 
-/* The longest table set, in bytes. */
+/* The longest table set, in bytes: that of n 4,096 and w 1. */
 #define RUGHTENA_LONGEST_SET 12291
 
 /* The most switch values of a network. */
 #define RUGHTENA_MOST_SWITCHES 321
+
+/* Sizes of lent memory. Each is a size_t, and a constant expression where its arguments are, so that it can be the size of an array; a
+ * preprocessor condition cannot hold it, and an argument is evaluated more than once. */
 
 /* The scratch words that generating needs. */
 #define RUGHTENA_GENERATE_SCRATCH(n) (4 * (size_t)(n) + 1024)
 
 /* The scratch words that reading needs. */
 #define RUGHTENA_READ_SCRATCH(n) (2 * (size_t)(n))
+
+/* The switch values of a network of `width` lines, 1 to 64. For a width that is no power of two: those of the least power of two above it,
+ * so that RUGHTENA_SWITCHES(w) is the B of a table set. */
+#define RUGHTENA_SWITCHES(width)                                                                                                 \
+    ((size_t)((size_t)(width) <= 1    ? 0                                                                                        \
+              : (size_t)(width) <= 2  ? 1                                                                                        \
+              : (size_t)(width) <= 4  ? 5                                                                                        \
+              : (size_t)(width) <= 8  ? 17                                                                                       \
+              : (size_t)(width) <= 16 ? 49                                                                                       \
+              : (size_t)(width) <= 32 ? 129                                                                                      \
+                                      : RUGHTENA_MOST_SWITCHES))
+
+/* c, the cycles of a frame; w is not 0. */
+#define RUGHTENA_CYCLES(n, w) ((size_t)(n) / (size_t)(w))
+
+/* a, the bits of an address, for c up to 4,096: as many as there are powers of two below c. */
+#define RUGHTENA_ADDRESS_BITS(c)                                                                                                 \
+    ((size_t)(((c) > 1) + ((c) > 2) + ((c) > 4) + ((c) > 8) + ((c) > 16) + ((c) > 32) + ((c) > 64) + ((c) > 128) + ((c) > 256) + \
+              ((c) > 512) + ((c) > 1024) + ((c) > 2048)))
+
+/* 2wa + B, the bits of one cycle in a table set. */
+#define RUGHTENA_CYCLE_BITS(n, w)                                                                                                \
+    (2 * (size_t)(w) * RUGHTENA_ADDRESS_BITS(RUGHTENA_CYCLES(n, w)) + RUGHTENA_SWITCHES(w))
+
+/* Whether n and w keep the limits and w divides n. Taking off 1 makes the largest number of 0, so that one comparison tests both ends. */
+#define RUGHTENA_HAS_SET(n, w)                                                                                                   \
+    ((size_t)(n) - 1 < RUGHTENA_MOST_WORDS && (size_t)(w) - 1 < RUGHTENA_MOST_WIDTH && (size_t)(n) % (size_t)(w) == 0)
+
+/* The bytes of a table set of n words and width w, 3 + ceil(c(2wa + B) / 8); 0 where no set has this n and w. */
+#define RUGHTENA_SET_LENGTH(n, w)                                                                                                \
+    (RUGHTENA_HAS_SET(n, w) ? 3 + (RUGHTENA_CYCLES(n, w) * RUGHTENA_CYCLE_BITS(n, w) + 7) / 8 : (size_t)0)
+
+/* The numbers of the refusals. Behind each: what it says, and the place that comes with it. */
+enum rughtena_refusal {
+    RUGHTENA_ACCEPTED = 0,       /* no refusal */
+    RUGHTENA_FRAME_SIZE = 1,     /* n is 0 or above 4,096 */
+    RUGHTENA_WIDTH = 2,          /* the width is 0 or above 64; for the network alone, no power of two up to 64 */
+    RUGHTENA_UNEVEN = 3,         /* w does not divide n */
+    RUGHTENA_OUT_OF_RANGE = 4,   /* image i is n or more; place i. A followed line is the width or more; place the line */
+    RUGHTENA_REPEATED = 5,       /* image i was already an earlier one; place i */
+    RUGHTENA_FILE_SHORT = 6,     /* the file is shorter than its header, or than its header says */
+    RUGHTENA_HEADER = 7,         /* the header breaks a limit, w does not divide n, or one of its four last bits is set */
+    RUGHTENA_FILE_LONG = 8,      /* bytes follow the set, or a filling bit is set */
+    RUGHTENA_READ_ADDRESS = 9,   /* a read address of line t is c or more, or that bank has read it before; place t */
+    RUGHTENA_SPARE_LINE = 10,    /* the network of line t carries a line below w to w or above; place t */
+    RUGHTENA_WRITE_ADDRESS = 11, /* a write address of line t is c or more, or that bank has taken it before; place t */
+    RUGHTENA_BUFFER_SHORT = 12,  /* a lent buffer is shorter than needed */
+    RUGHTENA_WORD_COUNT = 13,    /* a step is given other than w words */
+    RUGHTENA_CLOCK_RANGE = 14,   /* the clock has a cycle of c or more, a half above 1 or a fill above 2 */
+    RUGHTENA_SWITCH_VALUE = 15   /* a switch value is neither 0 nor 1; place its position */
+};
+
+/* A number in words, as a const char *. The number is evaluated more than once. */
+#define RUGHTENA_TEXT(number)                                                                                                    \
+    ((const char *)(                                                                                                             \
+        (number) == RUGHTENA_ACCEPTED        ? "accepted"                                                                        \
+        : (number) == RUGHTENA_FRAME_SIZE    ? "a frame has 1 to 4096 words"                                                     \
+        : (number) == RUGHTENA_WIDTH         ? "the width is 1 to 64, and a power of two for the network alone"                  \
+        : (number) == RUGHTENA_UNEVEN        ? "the width does not divide the number of words"                                   \
+        : (number) == RUGHTENA_OUT_OF_RANGE  ? "an image is not below the number of elements, or a line not below the width"     \
+        : (number) == RUGHTENA_REPEATED      ? "an image is that of an earlier element"                                          \
+        : (number) == RUGHTENA_FILE_SHORT    ? "the file is shorter than its table set"                                          \
+        : (number) == RUGHTENA_HEADER        ? "the header of the file is no table set's"                                        \
+        : (number) == RUGHTENA_FILE_LONG     ? "bytes follow the table set, or a filling bit is set"                             \
+        : (number) == RUGHTENA_READ_ADDRESS  ? "a read address is outside the frame, or its bank has read it before"             \
+        : (number) == RUGHTENA_SPARE_LINE    ? "a network carries a bank's line to a spare line"                                 \
+        : (number) == RUGHTENA_WRITE_ADDRESS ? "a write address is outside the frame, or its bank has taken it before"           \
+        : (number) == RUGHTENA_BUFFER_SHORT  ? "a lent buffer is shorter than needed"                                            \
+        : (number) == RUGHTENA_WORD_COUNT    ? "a step is given another number of words than the width"                          \
+        : (number) == RUGHTENA_CLOCK_RANGE   ? "the clock is outside its ranges"                                                 \
+        : (number) == RUGHTENA_SWITCH_VALUE  ? "a switch value is neither 0 nor 1"                                               \
+                                             : "no number of a refusal"))
 
 /* number 0: accepted, and `value` is what the call gives. Otherwise a refusal's number, and `value` is its place. */
 typedef struct {
@@ -75,8 +150,8 @@ typedef struct {
 } rughtena_clock;
 
 /* Generates a table set for the permutation of n words that the first n images give.
- * Lent: n images, read; the file's length in bytes, written; 4n + 1,024 scratch words, of which the first n are written.
- * Gives the file's length in bytes, 3 + ceil(c(2wa + B) / 8); bytes behind it stay. For every permutation a set is generated.
+ * Lent: n images, read; RUGHTENA_SET_LENGTH(n, w) bytes for the file, written; 4n + 1,024 scratch words, of which the first n are written.
+ * Gives that length; bytes behind it stay. For every permutation a set is generated.
  * Refuses 1, 2, 3, 12, then 4 and 5 by rising i. */
 rughtena_answer rughtena_generate(size_t n, size_t w, const uint16_t *images, size_t images_len, uint8_t *file,
                                   size_t file_len, uint16_t *scratch, size_t scratch_len);
@@ -88,7 +163,8 @@ rughtena_read_answer rughtena_read(const uint8_t *file, size_t file_len, uint16_
                                    const uint16_t *scratch, size_t scratch_len);
 
 /* Sets a network of `width` lines for the permutation that the first images give: line i leaves on line images[i].
- * Lent: an image for each line, read; B values of 0 or 1, written. B is 0, 1, 5, 17, 49, 129, 321 for 1, 2, 4 .. 64 lines.
+ * Lent: an image for each line, read; B values of 0 or 1, written, where B = RUGHTENA_SWITCHES(width) is 0, 1, 5, 17, 49, 129, 321 for 1, 2,
+ * 4 .. 64 lines.
  * Gives B. Refuses 2, 12, then 4 and 5 by rising i. */
 rughtena_answer rughtena_set(size_t width, const uint16_t *images, size_t images_len, uint8_t *values, size_t values_len);
 
@@ -105,6 +181,9 @@ rughtena_answer rughtena_follow(size_t width, const uint8_t *values, size_t valu
 rughtena_answer rughtena_step(const uint8_t *file, size_t file_len, rughtena_clock *clock, uint16_t *first,
                               size_t first_len, uint16_t *second, size_t second_len, const uint16_t *words,
                               size_t words_len, uint16_t *out, size_t out_len);
+
+/* The version of the linked library, as RUGHTENA_VERSION. */
+size_t rughtena_version(void);
 
 #ifdef __cplusplus
 }

@@ -1,6 +1,8 @@
 /* The stack memory that each call uses, in bytes. Each call runs in a thread whose stack was filled with a pattern; the deepest byte that
  * changed tells how far the call reached. What the thread itself uses is measured first and taken off.
  * Run: ./rughtena figures */
+#define _XOPEN_SOURCE 700 /* names pthread_attr_setstack, also where the compiler keeps to the C standard */
+
 #include <pthread.h>
 #include <rughtena.h>
 #include <stdio.h>
@@ -37,19 +39,22 @@ static void step(void) {
     rughtena_step(file, length, &clock, first, 2 * N, second, 2 * N, words, width, out, W);
 }
 
+/* A pointer to a function is no pointer to an object, so a thread is given the address of a variable that holds it. */
+typedef void (*measured)(void);
+
 static void *run(void *call) {
-    ((void (*)(void))call)();
+    (*(measured *)call)();
     return NULL;
 }
 
-static size_t depth(void (*call)(void)) {
+static size_t depth(measured call) {
     unsigned char *stack = aligned_alloc(4096, STACK);
     memset(stack, PATTERN, STACK);
     pthread_attr_t attributes;
     pthread_attr_init(&attributes);
     pthread_attr_setstack(&attributes, stack, STACK);
     pthread_t thread;
-    if (pthread_create(&thread, &attributes, run, (void *)call) != 0) {
+    if (pthread_create(&thread, &attributes, run, &call) != 0) {
         exit(1);
     }
     pthread_join(thread, NULL);

@@ -1,56 +1,100 @@
-//! `simulate`: a table set and words in, the words that leave out.
-use crate::refusals::words;
-use crate::text::{numbers, utf8};
-use crate::Wrong;
-use rughtena::{read_scratch, Clock, Said, MOST_WORDS};
-use std::fmt::Write;
+//! `simulate`: a table set and words in, the words that leave out. It holds one line at a time, and writes what it knows before it waits
+//! for more.
+use crate::files::{unwritten, Source};
+use crate::refusals::{set_refused, step_refused};
+use crate::set;
+use crate::text::{row, values};
+use crate::{End, Wrong};
+use rughtena::{Clock, Said};
+use std::io::{BufRead, BufReader, BufWriter, Read, Write};
 
-/// Each line of the input is a step: as many words as the set is wide. Each line of the output is what the card says: `filling`, or the words
-/// that leave. An empty line is passed over.
-pub fn simulate(set: &[u8], input: &[u8]) -> Result<Vec<u8>, Wrong> {
-    let mut images = vec![0; MOST_WORDS];
-    let (n, w) =
-        rughtena::read(set, &mut images, &vec![0; read_scratch(MOST_WORDS)]).map_err(words)?;
-    let mut steps = Vec::new();
-    for (line, text) in utf8(input)?.lines().enumerate() {
-        let entering = numbers(text).map_err(|wrong| format!("line {}: {wrong}", line + 1))?;
-        if entering.is_empty() {
-            continue;
-        }
-        if entering.len() != w {
-            let count = entering.len();
-            return Err(format!(
-                "line {}: refused 13: {count} words where the set takes {w}",
-                line + 1
-            ));
-        }
-        steps.push(entering);
-    }
-    let mut clock = Clock::default();
-    let mut first = vec![0; 2 * n];
-    let mut second = vec![0; 2 * n];
-    let mut out = vec![0; w];
-    let mut text = String::new();
-    for entering in steps {
-        match rughtena::step(
+/// The longest line that is taken, in bytes: far more than MOST_WIDTH words need.
+const LONGEST_LINE: usize = 1 << 16;
+
+/// The card: a set, and what it holds between steps.
+pub struct Card {
+    set: Vec<u8>,
+    w: usize,
+    clock: Clock,
+    first: Vec<u16>,
+    second: Vec<u16>,
+    out: Vec<u16>,
+}
+
+impl Card {
+    pub fn of(set: Vec<u8>) -> Result<Card, Wrong> {
+        let contents = set::read(&set).map_err(|refusal| set_refused(refusal, &set))?;
+        Ok(Card {
             set,
-            &mut clock,
-            &mut first,
-            &mut second,
-            &entering,
-            &mut out,
-        )
-        .map_err(words)?
-        {
-            Said::Filling => text.push_str("filling"),
-            Said::Wrote => {
-                for (port, word) in out.iter().enumerate() {
-                    let blank = if port == 0 { "" } else { " " };
-                    write!(text, "{blank}{word}").expect("a string takes all");
-                }
-            }
-        }
-        text.push('\n');
+            w: contents.w,
+            clock: Clock::default(),
+            first: vec![0; 2 * contents.n],
+            second: vec![0; 2 * contents.n],
+            out: vec![0; contents.w],
+        })
     }
-    Ok(text.into_bytes())
+
+    /// One step: the line that the card answers with.
+    fn step(&mut self, words: &[u16]) -> Result<String, Wrong> {
+        let said = rughtena::step(
+            &self.set,
+            &mut self.clock,
+            &mut self.first,
+            &mut self.second,
+            words,
+            &mut self.out,
+        )
+        .map_err(|refusal| step_refused(refusal, &self.set, words.len(), self.w))?;
+        Ok(match said {
+            Said::Filling => "filling\n".to_string(),
+            Said::Wrote => row(&self.out),
+        })
+    }
+}
+
+/// Each line of the input is a step, an empty one is passed over; each line of the output is what the card says.
+pub fn simulate(card: &mut Card, words: &Source, out: impl Write) -> Result<(), End> {
+    let mut input = BufReader::new(words.open()?);
+    let mut out = BufWriter::new(out);
+    let ended = steps(card, words, &mut input, &mut out);
+    let flushed = out.flush().map_err(unwritten);
+    ended.and(flushed)
+}
+
+fn steps<R: Read>(
+    card: &mut Card,
+    words: &Source,
+    input: &mut BufReader<R>,
+    out: &mut impl Write,
+) -> Result<(), End> {
+    let mut line = Vec::new();
+    for number in 1.. {
+        if !input.buffer().contains(&b'\n') {
+            out.flush().map_err(unwritten)?;
+        }
+        line.clear();
+        input
+            .take(LONGEST_LINE as u64 + 1)
+            .read_until(b'\n', &mut line)
+            .map_err(|error| words.unreadable(error))?;
+        if line.is_empty() {
+            break;
+        }
+        let said =
+            answer(card, &line).map_err(|wrong| words.says(format!("line {number}: {wrong}")))?;
+        out.write_all(said.as_bytes()).map_err(unwritten)?;
+    }
+    Ok(())
+}
+
+/// What the card says to a line of the input; nothing to an empty one.
+fn answer(card: &mut Card, line: &[u8]) -> Result<String, Wrong> {
+    if line.len() > LONGEST_LINE {
+        return Err(format!("more than {LONGEST_LINE} bytes"));
+    }
+    let entering = values(line)?;
+    if entering.is_empty() {
+        return Ok(String::new());
+    }
+    card.step(&entering)
 }

@@ -1,20 +1,19 @@
 //! Generates a set for document 002's order of 12 words, reads it back, and steps four frames through the card.
 //! Run: cargo run --example reorder
-use rughtena::{generate, read, step, Clock, Refusal, Said, LONGEST_SET};
+use rughtena::{generate, generate_scratch, read, set_length, step, Clock, Refusal, Said};
 
 const ORDER: [u16; 12] = [3, 7, 1, 2, 6, 0, 11, 9, 4, 10, 8, 5];
 const WIDTH: usize = 3;
 
 fn main() -> Result<(), Refusal> {
     let n = ORDER.len();
-    let mut file = vec![0; LONGEST_SET];
-    let mut scratch = vec![0; rughtena::generate_scratch(n)];
-    let length = generate(n, WIDTH, &ORDER, &mut file, &mut scratch)?;
-    let set = &file[..length];
+    let mut set = [0; set_length(ORDER.len(), WIDTH)];
+    let mut scratch = [0; generate_scratch(ORDER.len())];
+    let length = generate(n, WIDTH, &ORDER, &mut set, &mut scratch)?;
     println!("a set of {length} bytes");
 
     let mut images = [0; ORDER.len()];
-    let (words, width) = read(set, &mut images, &scratch)?;
+    let (words, width) = read(&set, &mut images, &scratch)?;
     let order: Vec<String> = images.iter().map(u16::to_string).collect();
     println!("reads as {words} words, width {width}: {}", order.join(" "));
 
@@ -27,7 +26,7 @@ fn main() -> Result<(), Refusal> {
                 .collect();
             let mut out = [0; WIDTH];
             match step(
-                set,
+                &set,
                 &mut clock,
                 &mut first,
                 &mut second,

@@ -1,17 +1,49 @@
-//! Safe calls of the proved library, laid out as include/rughtena.h declares them. No call has a condition on its arguments, so
-//! nothing is tested here. include/rughtena.h says what each call is lent, what it writes and what it refuses.
+//! Table sets for a streaming reorder card. The card takes frames of n words, w words in each cycle, and gives each frame out in another
+//! fixed order without a pause: word i leaves at place `images[i]`. A table set, a small bit-packed file, tells the card what its memories
+//! and its permutation network do in each of the c = n / w cycles of a frame.
+//!
+//! n is 1 to [`MOST_WORDS`], w is 1 to [`MOST_WIDTH`], and w divides n.
+//!
+//! The calls are those of librughtena.a, which is proved to meet its contracts for all arguments. So no call panics, and none has a
+//! condition on what it is given: it ends with its result or with a [`Refusal`]. All memory is lent by the caller, the crate allocates
+//! nothing and needs no standard library. A refused call alters nothing that was lent to it.
+//!
+//! To build, the library has to be there: `rt staticlib rughtena` writes it to `target/staticlib` of the repository, where it is looked
+//! for, and the environment variable `RUGHTENA_LIB_DIR` names another folder. The library is for x86-64.
+//!
+//! ```
+//! use rughtena::{generate, generate_scratch, read, read_scratch, set_length, Refusal};
+//!
+//! # fn main() -> Result<(), Refusal> {
+//! let order = [3, 7, 1, 2, 6, 0, 11, 9, 4, 10, 8, 5];
+//! let mut file = [0; set_length(12, 3)];
+//! generate(12, 3, &order, &mut file, &mut [0; generate_scratch(12)])?;
+//!
+//! let mut images = [0; 12];
+//! assert_eq!(read(&file, &mut images, &[0; read_scratch(12)])?, (12, 3));
+//! assert_eq!(images, order);
+//! # Ok(())
+//! # }
+//! ```
+#![no_std]
+#![deny(missing_docs)]
 
-/// A refusal: its number and its place.
-#[derive(Clone, Copy, Debug, PartialEq, Eq)]
-pub struct Refusal {
-    pub number: usize,
-    pub place: usize,
-}
+pub mod raw;
+mod refusal;
+mod sizes;
+
+pub use refusal::Refusal;
+pub use sizes::{
+    generate_scratch, read_scratch, set_length, switches, LONGEST_SET, MOST_SWITCHES, MOST_WIDTH,
+    MOST_WORDS,
+};
 
 /// What an accepted step says.
 #[derive(Clone, Copy, Debug, PartialEq, Eq)]
 pub enum Said {
+    /// The card does not hold two frames yet; nothing left, and the output was not written.
     Filling,
+    /// w words left, and stand at the front of the output.
     Wrote,
 }
 
@@ -19,101 +51,61 @@ pub enum Said {
 #[repr(C)]
 #[derive(Clone, Copy, Debug, Default, PartialEq, Eq)]
 pub struct Clock {
+    /// The cycle of the frame that enters, below c.
     pub cycle: usize,
+    /// The half of each bank that is being filled, 0 or 1.
     pub half: usize,
+    /// The frames that the card holds, 0 to 2.
     pub fill: usize,
 }
 
-/// The most words of a frame.
-pub const MOST_WORDS: usize = 4096;
+/// The version of this crate: major * 10000 + minor * 100 + patch.
+pub const VERSION: usize = 10000 * part(env!("CARGO_PKG_VERSION_MAJOR"))
+    + 100 * part(env!("CARGO_PKG_VERSION_MINOR"))
+    + part(env!("CARGO_PKG_VERSION_PATCH"));
 
-/// The most words of a cycle, and the most lines of a network.
-pub const MOST_WIDTH: usize = 64;
-
-/// The most switch values of a network.
-pub const MOST_SWITCHES: usize = 321;
-
-/// The longest table set, in bytes.
-pub const LONGEST_SET: usize = 12291;
-
-/// The scratch words that generating needs for frames of n words.
-pub const fn generate_scratch(n: usize) -> usize {
-    4 * n + 1024
-}
-
-/// The scratch words that reading needs for frames of n words.
-pub const fn read_scratch(n: usize) -> usize {
-    2 * n
-}
-
-#[repr(C)]
-struct Answer {
-    number: usize,
-    value: usize,
-}
-
-#[repr(C)]
-struct ReadAnswer {
-    number: usize,
-    place: usize,
-    words: usize,
-    width: usize,
-}
-
-extern "C" {
-    fn rughtena_generate(
-        n: usize,
-        w: usize,
-        images: *const u16,
-        images_len: usize,
-        file: *mut u8,
-        file_len: usize,
-        scratch: *mut u16,
-        scratch_len: usize,
-    ) -> Answer;
-    fn rughtena_read(
-        file: *const u8,
-        file_len: usize,
-        images: *mut u16,
-        images_len: usize,
-        scratch: *const u16,
-        scratch_len: usize,
-    ) -> ReadAnswer;
-    fn rughtena_set(
-        width: usize,
-        images: *const u16,
-        images_len: usize,
-        values: *mut u8,
-        values_len: usize,
-    ) -> Answer;
-    fn rughtena_follow(width: usize, values: *const u8, values_len: usize, line: usize) -> Answer;
-    fn rughtena_step(
-        file: *const u8,
-        file_len: usize,
-        clock: *mut Clock,
-        first: *mut u16,
-        first_len: usize,
-        second: *mut u16,
-        second_len: usize,
-        words: *const u16,
-        words_len: usize,
-        out: *mut u16,
-        out_len: usize,
-    ) -> Answer;
-}
-
-#[inline]
-fn value(answer: Answer) -> Result<usize, Refusal> {
-    match answer.number {
-        0 => Ok(answer.value),
-        number => Err(Refusal {
-            number,
-            place: answer.value,
-        }),
+const fn part(digits: &str) -> usize {
+    match usize::from_str_radix(digits, 10) {
+        Ok(number) => number,
+        Err(_) => panic!("cargo gives whole numbers"),
     }
 }
 
-/// Generates a table set; gives its length in bytes.
+/// The version of the linked library, in the form of [`VERSION`].
+///
+/// ```
+/// assert_eq!(rughtena::version(), rughtena::VERSION);
+/// ```
+#[inline]
+pub fn version() -> usize {
+    raw::version()
+}
+
+/// Generates a table set for frames of `n` words and width `w` in which word i leaves at place `images[i]`, and gives its length in bytes,
+/// [`set_length(n, w)`](set_length). For every permutation there is one.
+///
+/// Needed are `n` images, that many bytes of `file` and [`generate_scratch(n)`](generate_scratch) words of `scratch`. Bytes behind the set
+/// and images behind the first `n` do not matter and stay. The first `n` scratch words may hold anything afterwards.
+///
+/// # Errors
+///
+/// In this order: [`FRAME_SIZE`](Refusal::FRAME_SIZE), [`WIDTH`](Refusal::WIDTH), [`UNEVEN`](Refusal::UNEVEN),
+/// [`BUFFER_SHORT`](Refusal::BUFFER_SHORT); then the first image that is [`OUT_OF_RANGE`](Refusal::OUT_OF_RANGE) or
+/// [`REPEATED`](Refusal::REPEATED).
+///
+/// ```
+/// use rughtena::{generate, generate_scratch, set_length, Refusal};
+///
+/// let mut scratch = [0; generate_scratch(2)];
+/// let mut file = [0xff; 8];
+/// let length = generate(2, 2, &[1, 0], &mut file, &mut scratch)?;
+/// assert_eq!(length, set_length(2, 2));
+/// assert_eq!(file, [0x00, 0x10, 0x20, 0x80, 0xff, 0xff, 0xff, 0xff]);
+///
+/// let refusal = generate(2, 2, &[1, 0], &mut file[..3], &mut scratch).unwrap_err();
+/// assert_eq!(refusal.number, Refusal::BUFFER_SHORT);
+/// # Ok::<(), Refusal>(())
+/// ```
 #[inline]
 pub fn generate(
     n: usize,
@@ -122,67 +114,109 @@ pub fn generate(
     file: &mut [u8],
     scratch: &mut [u16],
 ) -> Result<usize, Refusal> {
-    // SAFETY: each pointer comes from a slice of the length beside it.
-    value(unsafe {
-        rughtena_generate(
-            n,
-            w,
-            images.as_ptr(),
-            images.len(),
-            file.as_mut_ptr(),
-            file.len(),
-            scratch.as_mut_ptr(),
-            scratch.len(),
-        )
-    })
+    raw::generate(n, w, images, file, scratch).value()
 }
 
-/// Reads a table set; gives n and w, beside the written images.
+/// Reads a table set, and gives n and w. `file` has the bytes of the set and no others. Word i leaves at place `images[i]`.
+///
+/// Needed are n words of `images`, of which the first n are written, and [`read_scratch(n)`](read_scratch) words of `scratch`, which are
+/// not written. A file in the form of a table set is accepted exactly when it performs a permutation.
+///
+/// # Errors
+///
+/// In this order: [`FILE_SHORT`](Refusal::FILE_SHORT) for the header, [`HEADER`](Refusal::HEADER), `FILE_SHORT` for the rest,
+/// [`FILE_LONG`](Refusal::FILE_LONG), [`BUFFER_SHORT`](Refusal::BUFFER_SHORT); then cycle by cycle
+/// [`READ_ADDRESS`](Refusal::READ_ADDRESS), [`SPARE_LINE`](Refusal::SPARE_LINE), [`WRITE_ADDRESS`](Refusal::WRITE_ADDRESS).
+///
+/// ```
+/// use rughtena::{read, read_scratch, Refusal};
+///
+/// let set = [0x00, 0x10, 0x20, 0x80];
+/// let mut images = [0; 2];
+/// assert_eq!(read(&set, &mut images, &[0; read_scratch(2)]), Ok((2, 2)));
+/// assert_eq!(images, [1, 0]);
+///
+/// let refusal = read(&set[..3], &mut images, &[0; read_scratch(2)]).unwrap_err();
+/// assert_eq!(refusal.number, Refusal::FILE_SHORT);
+/// ```
 #[inline]
 pub fn read(file: &[u8], images: &mut [u16], scratch: &[u16]) -> Result<(usize, usize), Refusal> {
-    // SAFETY: each pointer comes from a slice of the length beside it.
-    let answer = unsafe {
-        rughtena_read(
-            file.as_ptr(),
-            file.len(),
-            images.as_mut_ptr(),
-            images.len(),
-            scratch.as_ptr(),
-            scratch.len(),
-        )
-    };
-    match answer.number {
-        0 => Ok((answer.words, answer.width)),
-        number => Err(Refusal {
-            number,
-            place: answer.place,
-        }),
-    }
+    raw::read(file, images, scratch).contents()
 }
 
-/// Sets a network; gives the number of values written.
+/// Sets a permutation network of `width` lines, a power of two up to 64, so that line i leaves on line `images[i]`. Gives the number of
+/// switch values, [`switches(width)`](switches).
+///
+/// Needed are an image for each line and that many values, which are written: 0 for a straight switch, 1 for a crossed one. In order they
+/// are those of the input switches, of the upper inner network, of the lower one, and of the output switches but the last.
+///
+/// # Errors
+///
+/// In this order: [`WIDTH`](Refusal::WIDTH), [`BUFFER_SHORT`](Refusal::BUFFER_SHORT); then the first image that is
+/// [`OUT_OF_RANGE`](Refusal::OUT_OF_RANGE) or [`REPEATED`](Refusal::REPEATED).
+///
+/// ```
+/// use rughtena::{follow, set, switches};
+///
+/// let mut values = [0; switches(4)];
+/// assert_eq!(set(4, &[2, 0, 3, 1], &mut values), Ok(5));
+/// assert_eq!(follow(4, &values, 0), Ok(2));
+/// assert_eq!(follow(4, &values, 3), Ok(1));
+/// ```
 #[inline]
 pub fn set(width: usize, images: &[u16], values: &mut [u8]) -> Result<usize, Refusal> {
-    // SAFETY: each pointer comes from a slice of the length beside it.
-    value(unsafe {
-        rughtena_set(
-            width,
-            images.as_ptr(),
-            images.len(),
-            values.as_mut_ptr(),
-            values.len(),
-        )
-    })
+    raw::set(width, images, values).value()
 }
 
-/// Follows a line through a network; gives the line on which it leaves.
+/// Follows a line through a network of `width` lines whose switches stand as the first [`switches(width)`](switches) values say, and gives
+/// the line on which it leaves. Later values do not matter.
+///
+/// # Errors
+///
+/// In this order: [`WIDTH`](Refusal::WIDTH), [`BUFFER_SHORT`](Refusal::BUFFER_SHORT), [`SWITCH_VALUE`](Refusal::SWITCH_VALUE) for the
+/// first value above 1, [`OUT_OF_RANGE`](Refusal::OUT_OF_RANGE) for the line.
+///
+/// ```
+/// use rughtena::{follow, Refusal};
+///
+/// assert_eq!(follow(2, &[1], 0), Ok(1));
+/// let refusal = follow(2, &[1], 2).unwrap_err();
+/// assert_eq!(refusal, Refusal { number: Refusal::OUT_OF_RANGE, place: 2 });
+/// ```
 #[inline]
 pub fn follow(width: usize, values: &[u8], line: usize) -> Result<usize, Refusal> {
-    // SAFETY: the pointer comes from a slice of the length beside it.
-    value(unsafe { rughtena_follow(width, values.as_ptr(), values.len(), line) })
+    raw::follow(width, values, line).value()
 }
 
-/// One step of the cycle machine; an accepted one moves the clock on, a refused one leaves it.
+/// One step of the cycle machine on a table set: w words enter, and once the card holds two frames w words leave. An accepted step moves the
+/// clock on, a refused one leaves it.
+///
+/// `file` has the bytes of the set and no others, `words` exactly w words. `first` and `second` are the memories, of 2n words each; they
+/// may hold anything before the first step, and belong to the card from then on. `out` has room for w words. Words behind these stay.
+///
+/// # Errors
+///
+/// In this order: [`FILE_SHORT`](Refusal::FILE_SHORT) for the header, [`HEADER`](Refusal::HEADER), `FILE_SHORT` for the rest,
+/// [`FILE_LONG`](Refusal::FILE_LONG), [`BUFFER_SHORT`](Refusal::BUFFER_SHORT), [`WORD_COUNT`](Refusal::WORD_COUNT),
+/// [`CLOCK_RANGE`](Refusal::CLOCK_RANGE); with a fill of 1 or more also [`READ_ADDRESS`](Refusal::READ_ADDRESS),
+/// [`SPARE_LINE`](Refusal::SPARE_LINE), [`WRITE_ADDRESS`](Refusal::WRITE_ADDRESS) for the clock's own cycle. A step does not look for
+/// repeated addresses: [`read`] a set once before you step on it.
+///
+/// ```
+/// use rughtena::{step, Clock, Refusal, Said};
+///
+/// // two words in each frame and each cycle, exchanged
+/// let set = [0x00, 0x10, 0x20, 0x80];
+/// let (mut first, mut second, mut out) = ([0; 4], [0; 4], [0; 2]);
+/// let mut clock = Clock::default();
+/// for words in [[10, 11], [20, 21]] {
+///     let said = step(&set, &mut clock, &mut first, &mut second, &words, &mut out)?;
+///     assert_eq!(said, Said::Filling);
+/// }
+/// let said = step(&set, &mut clock, &mut first, &mut second, &[30, 31], &mut out)?;
+/// assert_eq!((said, out), (Said::Wrote, [11, 10]));
+/// # Ok::<(), Refusal>(())
+/// ```
 #[inline]
 pub fn step(
     file: &[u8],
@@ -192,25 +226,5 @@ pub fn step(
     words: &[u16],
     out: &mut [u16],
 ) -> Result<Said, Refusal> {
-    // SAFETY: each pointer comes from a slice of the length beside it, or from the clock.
-    let wrote = value(unsafe {
-        rughtena_step(
-            file.as_ptr(),
-            file.len(),
-            clock,
-            first.as_mut_ptr(),
-            first.len(),
-            second.as_mut_ptr(),
-            second.len(),
-            words.as_ptr(),
-            words.len(),
-            out.as_mut_ptr(),
-            out.len(),
-        )
-    })?;
-    Ok(if wrote == 0 {
-        Said::Filling
-    } else {
-        Said::Wrote
-    })
+    raw::step(file, clock, first, second, words, out).said()
 }

@@ -1,9 +1,42 @@
 //! Each call made twice on the same lent memory, by the proved library and by the second implementation. The answers are compared, and
-//! every lent word afterwards, guards included. Memory that a call only reads is given as it is.
+//! every lent word afterwards, guards included. Memory that a call only reads is given as it is. The library's answers are compared
+//! integer by integer, as C gets them.
 use crate::lent::Lent;
 use crate::orders::Random;
 use crate::second;
 use crate::{generate_scratch, Clock, Refusal, Said};
+use rughtena::raw::{self, Answer, ReadAnswer};
+
+/// The integers of a call with one value.
+fn integers(answer: Result<usize, Refusal>) -> Answer {
+    let (number, value) = match answer {
+        Ok(value) => (0, value),
+        Err(refusal) => (refusal.number, refusal.place),
+    };
+    Answer { number, value }
+}
+
+/// The integers of a reading.
+fn read_integers(answer: Result<(usize, usize), Refusal>) -> ReadAnswer {
+    let (number, place, words, width) = match answer {
+        Ok((words, width)) => (0, 0, words, width),
+        Err(refusal) => (refusal.number, refusal.place, 0, 0),
+    };
+    ReadAnswer {
+        number,
+        place,
+        words,
+        width,
+    }
+}
+
+/// The value by which a step says what it did: 0 for `filling`, 1 for written words.
+fn said_value(said: Said) -> usize {
+    match said {
+        Said::Filling => 0,
+        Said::Wrote => 1,
+    }
+}
 
 /// Generating. Where a set is made its read lines are the generator's choice, so file and scratch are left to the caller; the call
 /// answers with the set.
@@ -16,12 +49,11 @@ pub fn generate(
 ) -> Result<Vec<u8>, Refusal> {
     let (mut file, mut scratch) = (file.clone(), scratch.clone());
     let (mut other_file, mut other_scratch) = (file.clone(), scratch.clone());
-    let answer = rughtena::generate(n, w, images, file.part(), scratch.part());
-    assert_eq!(
-        answer,
-        second::generate(n, w, images, other_file.part(), other_scratch.part())
-    );
-    match answer {
+    let answer = raw::generate(n, w, images, file.part(), scratch.part());
+    let expected = second::generate(n, w, images, other_file.part(), other_scratch.part());
+    assert_eq!(answer, integers(expected));
+    assert_eq!(answer.value(), expected);
+    match expected {
         Err(refusal) => {
             file.untouched();
             scratch.untouched();
@@ -47,14 +79,13 @@ pub fn read(
 ) -> Result<(usize, usize, Vec<u16>), Refusal> {
     let mut images = images.clone();
     let mut other_images = images.clone();
-    let answer = rughtena::read(file, images.part(), scratch.now());
-    assert_eq!(
-        answer,
-        second::read(file, other_images.part(), scratch.now())
-    );
+    let answer = raw::read(file, images.part(), scratch.now());
+    let expected = second::read(file, other_images.part(), scratch.now());
+    assert_eq!(answer, read_integers(expected));
+    assert_eq!(answer.contents(), expected);
     assert_eq!(images, other_images);
     scratch.untouched();
-    match answer {
+    match expected {
         Err(refusal) => {
             images.untouched();
             Err(refusal)
@@ -70,10 +101,12 @@ pub fn read(
 pub fn set(width: usize, images: &[u16], values: &Lent<u8>) -> Result<Vec<u8>, Refusal> {
     let mut values = values.clone();
     let mut other_values = values.clone();
-    let answer = rughtena::set(width, images, values.part());
-    assert_eq!(answer, second::set(width, images, other_values.part()));
+    let answer = raw::set(width, images, values.part());
+    let expected = second::set(width, images, other_values.part());
+    assert_eq!(answer, integers(expected));
+    assert_eq!(answer.value(), expected);
     assert_eq!(values, other_values);
-    match answer {
+    match expected {
         Err(refusal) => {
             values.untouched();
             Err(refusal)
@@ -86,9 +119,11 @@ pub fn set(width: usize, images: &[u16], values: &Lent<u8>) -> Result<Vec<u8>, R
 }
 
 pub fn follow(width: usize, values: &[u8], line: usize) -> Result<usize, Refusal> {
-    let answer = rughtena::follow(width, values, line);
-    assert_eq!(answer, second::follow(width, values, line));
-    answer
+    let answer = raw::follow(width, values, line);
+    let expected = second::follow(width, values, line);
+    assert_eq!(answer, integers(expected));
+    assert_eq!(answer.value(), expected);
+    expected
 }
 
 /// A step; the memories and the output stay as the step left them.
@@ -106,7 +141,7 @@ pub fn step(
     let mut other_second = second_memory.clone();
     let mut other_out = out.clone();
     let untouched = (first.clone(), second_memory.clone(), out.clone());
-    let answer = rughtena::step(
+    let answer = raw::step(
         file,
         clock,
         first.part(),
@@ -114,23 +149,22 @@ pub fn step(
         words,
         out.part(),
     );
-    assert_eq!(
-        answer,
-        second::step(
-            file,
-            &mut other_clock,
-            other_first.part(),
-            other_second.part(),
-            words,
-            other_out.part()
-        )
+    let expected = second::step(
+        file,
+        &mut other_clock,
+        other_first.part(),
+        other_second.part(),
+        words,
+        other_out.part(),
     );
+    assert_eq!(answer, integers(expected.map(said_value)));
+    assert_eq!(answer.said(), expected);
     assert_eq!(*clock, other_clock);
     assert_eq!(
         (&*first, &*second_memory, &*out),
         (&other_first, &other_second, &other_out)
     );
-    if answer.is_err() {
+    if expected.is_err() {
         assert_eq!(*clock, before);
         assert_eq!(
             (first, second_memory, out),
@@ -141,7 +175,7 @@ pub fn step(
             )
         );
     }
-    answer
+    expected
 }
 
 /// A set for a random order, made by the second implementation.

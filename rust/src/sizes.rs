@@ -1,0 +1,78 @@
+//! The limits, and how much memory a call is lent.
+
+/// The most words of a frame.
+pub const MOST_WORDS: usize = 4096;
+
+/// The most words of a cycle, and the most lines of a network.
+pub const MOST_WIDTH: usize = 64;
+
+/// The most switch values of a network.
+pub const MOST_SWITCHES: usize = 321;
+
+/// The bytes of the longest table set, that of [`MOST_WORDS`] words and width 1.
+pub const LONGEST_SET: usize = 12291;
+
+/// The bytes of a table set for frames of `n` words and width `w`, and 0 where no set has this `n` and `w`.
+///
+/// With c = n / w cycles it is 3 + ceil(c(2wa + B) / 8). An address has a bits, the least whole number with 2^a at least c, and B is
+/// [`switches(w)`](switches).
+///
+/// ```
+/// use rughtena::{set_length, LONGEST_SET, MOST_WORDS};
+///
+/// static FILE: [u8; set_length(12, 3)] = [0; set_length(12, 3)];
+/// assert_eq!(FILE.len(), 12);
+/// assert_eq!(set_length(MOST_WORDS, 1), LONGEST_SET);
+/// assert_eq!(set_length(10, 3), 0);
+/// ```
+pub const fn set_length(n: usize, w: usize) -> usize {
+    if n == 0 || n > MOST_WORDS || w == 0 || w > MOST_WIDTH || n % w != 0 {
+        return 0;
+    }
+    let c = n / w;
+    let a = c.next_power_of_two().trailing_zeros() as usize;
+    3 + (c * (2 * w * a + switches(w))).div_ceil(8)
+}
+
+/// The switch values of a network of `width` lines, 1 to 64. For a width that is no power of two: those of the least power of two above
+/// it, the network that a table set of this width has.
+///
+/// ```
+/// use rughtena::switches;
+///
+/// let values = [0; switches(4)];
+/// assert_eq!(values.len(), 5);
+/// assert_eq!(switches(3), switches(4));
+/// ```
+pub const fn switches(width: usize) -> usize {
+    match width {
+        0..=1 => 0,
+        2 => 1,
+        3..=4 => 5,
+        5..=8 => 17,
+        9..=16 => 49,
+        17..=32 => 129,
+        _ => MOST_SWITCHES,
+    }
+}
+
+/// The scratch words that [`generate`](crate::generate) needs for frames of `n` words.
+///
+/// ```
+/// use rughtena::{generate_scratch, MOST_WORDS};
+///
+/// static SCRATCH: [u16; generate_scratch(MOST_WORDS)] = [0; generate_scratch(MOST_WORDS)];
+/// assert_eq!(SCRATCH.len(), 4 * 4096 + 1024);
+/// ```
+pub const fn generate_scratch(n: usize) -> usize {
+    4 * n + 1024
+}
+
+/// The scratch words that [`read`](crate::read) needs for frames of `n` words.
+///
+/// ```
+/// assert_eq!(rughtena::read_scratch(12), 24);
+/// ```
+pub const fn read_scratch(n: usize) -> usize {
+    2 * n
+}

@@ -1,0 +1,157 @@
+/* What include/rughtena.h defines, held to what the library answers: the lengths of sets, the switch values of networks, the numbers of
+ * refusals and their texts. It keeps to C89 and to C++98, since tests/header compiles it under every standard from there on. */
+#include <rughtena.h>
+#include <stdio.h>
+#include <string.h>
+
+/* An array of one char where the condition holds, and no C where it does not: so the macros are shown to be constant expressions. */
+#define HOLDS(name, condition) extern char name[(condition) ? 1 : -1]
+
+HOLDS(shortest_set, RUGHTENA_SET_LENGTH(1, 1) == 3);
+HOLDS(set_of_twelve, RUGHTENA_SET_LENGTH(12, 3) == 12);
+HOLDS(set_of_sixty_eight, RUGHTENA_SET_LENGTH(68, 1) == 122);
+HOLDS(longest_set, RUGHTENA_SET_LENGTH(RUGHTENA_MOST_WORDS, 1) == RUGHTENA_LONGEST_SET);
+HOLDS(no_set_of_no_words, RUGHTENA_SET_LENGTH(0, 1) == 0);
+HOLDS(no_set_of_too_many_words, RUGHTENA_SET_LENGTH(RUGHTENA_MOST_WORDS + 1, 1) == 0);
+HOLDS(no_set_of_width_0, RUGHTENA_SET_LENGTH(12, 0) == 0);
+HOLDS(no_set_of_width_65, RUGHTENA_SET_LENGTH(130, 65) == 0);
+HOLDS(no_set_of_an_uneven_width, RUGHTENA_SET_LENGTH(10, 3) == 0);
+HOLDS(most_switches, RUGHTENA_SWITCHES(RUGHTENA_MOST_WIDTH) == RUGHTENA_MOST_SWITCHES);
+HOLDS(lengths_are_sizes, sizeof(RUGHTENA_SET_LENGTH(12, 3)) == sizeof(size_t) && sizeof(RUGHTENA_SWITCHES(3)) == sizeof(size_t));
+HOLDS(version_number, RUGHTENA_VERSION == RUGHTENA_VERSION_MAJOR * 10000 + RUGHTENA_VERSION_MINOR * 100 + RUGHTENA_VERSION_PATCH);
+HOLDS(accepted_is_0, RUGHTENA_ACCEPTED == 0);
+HOLDS(last_number, RUGHTENA_SWITCH_VALUE == 15);
+
+#if RUGHTENA_VERSION < 200
+#error "RUGHTENA_VERSION is no number of the preprocessor, or below 0.2.0"
+#endif
+
+static uint16_t images[RUGHTENA_MOST_WORDS], read_images[RUGHTENA_MOST_WORDS];
+static uint16_t scratch[RUGHTENA_GENERATE_SCRATCH(RUGHTENA_MOST_WORDS)];
+static uint8_t file[RUGHTENA_SET_LENGTH(RUGHTENA_MOST_WORDS, 1)], values[RUGHTENA_SWITCHES(RUGHTENA_MOST_WIDTH)];
+static int failures;
+
+static void same(const char *what, size_t first, size_t second, size_t expected, size_t found) {
+    if (expected != found) {
+        failures++;
+        printf("header: %s of %lu, %lu: %lu expected, %lu found\n", what, (unsigned long)first, (unsigned long)second,
+               (unsigned long)expected, (unsigned long)found);
+    }
+}
+
+/* A file of the macro's length is enough, a byte less is refused, and the library answers with that length. */
+static void length_of(size_t n, size_t w) {
+    const size_t length = RUGHTENA_SET_LENGTH(n, w), room = RUGHTENA_GENERATE_SCRATCH(n);
+    rughtena_answer made = rughtena_generate(n, w, images, n, file, length, scratch, room);
+    same("number of the set", n, w, RUGHTENA_ACCEPTED, made.number);
+    same("length of the set", n, w, length, made.value);
+    made = rughtena_generate(n, w, images, n, file, length - 1, scratch, room);
+    same("number with a byte less", n, w, RUGHTENA_BUFFER_SHORT, made.number);
+}
+
+/* Arguments of types in which the larger limits cannot be written; a compiler warns where a comparison cannot fail. */
+static size_t narrow(uint16_t n, uint8_t w) { return RUGHTENA_SET_LENGTH(n, w) + RUGHTENA_SWITCHES(w); }
+
+/* Every width, and numbers of cycles on both sides of each power of two. */
+static void lengths(void) {
+    size_t w, power, c;
+    for (w = 1; w <= RUGHTENA_MOST_WIDTH; w++) {
+        for (power = 1; power * w <= RUGHTENA_MOST_WORDS; power *= 2) {
+            for (c = power > 1 ? power - 1 : 1; c <= power + 1 && c * w <= RUGHTENA_MOST_WORDS; c++) {
+                length_of(c * w, w);
+            }
+        }
+        length_of(RUGHTENA_MOST_WORDS / w * w, w);
+    }
+    same("length and switches", 12, 3, 12 + 5, narrow(12, 3));
+    same("scratch of reading", 12, 3, 24, RUGHTENA_READ_SCRATCH(12));
+}
+
+/* Setting a network answers with its number of values; a set has the network of the next power of two. */
+static void switches(void) {
+    size_t width, lines = 1;
+    for (width = 1; width <= RUGHTENA_MOST_WIDTH; width++) {
+        rughtena_answer set;
+        lines = lines < width ? 2 * lines : lines;
+        set = rughtena_set(lines, images, lines, values, sizeof values);
+        same("switch values", width, lines, set.value, RUGHTENA_SWITCHES(width));
+    }
+}
+
+/* Which number a call answers for each fault that it can be given here. */
+static void numbers_of_sets(void) {
+    const size_t room = RUGHTENA_GENERATE_SCRATCH(12);
+    const uint16_t repeated[2] = {0, 0}, outside[2] = {2, 0};
+    const size_t length = RUGHTENA_SET_LENGTH(12, 3);
+    same("frame size", 0, 1, RUGHTENA_FRAME_SIZE, rughtena_generate(0, 1, images, 0, file, 3, scratch, room).number);
+    same("width", 12, 0, RUGHTENA_WIDTH, rughtena_generate(12, 0, images, 12, file, 3, scratch, room).number);
+    same("uneven", 10, 3, RUGHTENA_UNEVEN, rughtena_generate(10, 3, images, 10, file, 3, scratch, room).number);
+    same("out of range", 2, 1, RUGHTENA_OUT_OF_RANGE, rughtena_generate(2, 1, outside, 2, file, 9, scratch, 1032).number);
+    same("repeated", 2, 1, RUGHTENA_REPEATED, rughtena_generate(2, 1, repeated, 2, file, 9, scratch, 1032).number);
+    rughtena_generate(12, 3, images, 12, file, sizeof file, scratch, room);
+    same("file short", 12, 3, RUGHTENA_FILE_SHORT, rughtena_read(file, length - 1, read_images, 12, scratch, 24).number);
+    same("file long", 12, 3, RUGHTENA_FILE_LONG, rughtena_read(file, length + 1, read_images, 12, scratch, 24).number);
+    same("buffer short", 12, 3, RUGHTENA_BUFFER_SHORT, rughtena_read(file, length, read_images, 11, scratch, 24).number);
+    file[2] ^= 1;
+    same("header", 12, 3, RUGHTENA_HEADER, rughtena_read(file, length, read_images, 12, scratch, 24).number);
+}
+
+/* Faults of lines: the set of example 4 of document 01 with one bit or two flipped. */
+static void numbers_of_lines(void) {
+    static const uint8_t example[12] = {0x00, 0x60, 0x30, 0x0c, 0x0c, 0xa8, 0x58, 0x2a, 0x2e, 0xfe, 0xd0, 0xe0};
+    memcpy(file, example, sizeof example);
+    same("accepted", 12, 3, RUGHTENA_ACCEPTED, rughtena_read(file, 12, read_images, 12, scratch, 24).number);
+    file[3] = 0xcc;
+    file[5] ^= 0x10;
+    same("read address", 12, 3, RUGHTENA_READ_ADDRESS, rughtena_read(file, 12, read_images, 12, scratch, 24).number);
+    memcpy(file, example, sizeof example);
+    file[3] ^= 0x01;
+    same("spare line", 12, 3, RUGHTENA_SPARE_LINE, rughtena_read(file, 12, read_images, 12, scratch, 24).number);
+    memcpy(file, example, sizeof example);
+    file[11] ^= 0x20;
+    same("write address", 12, 3, RUGHTENA_WRITE_ADDRESS, rughtena_read(file, 12, read_images, 12, scratch, 24).number);
+}
+
+static void numbers_of_steps(void) {
+    static const uint8_t example[12] = {0x00, 0x60, 0x30, 0x0c, 0x0c, 0xa8, 0x58, 0x2a, 0x2e, 0xfe, 0xd0, 0xe0};
+    static uint16_t first[24], second[24], words[3], out[3];
+    rughtena_clock clock = {0, 0, 3};
+    same("word count", 12, 3, RUGHTENA_WORD_COUNT,
+         rughtena_step(example, 12, &clock, first, 24, second, 24, words, 2, out, 3).number);
+    same("clock range", 12, 3, RUGHTENA_CLOCK_RANGE,
+         rughtena_step(example, 12, &clock, first, 24, second, 24, words, 3, out, 3).number);
+    values[0] = 2;
+    same("switch value", 2, 0, RUGHTENA_SWITCH_VALUE, rughtena_follow(2, values, 1, 0).number);
+}
+
+/* Each number has a text of its own, a const char * that needs no cast, and no other number shares it. */
+static void texts(void) {
+    size_t number, other;
+    for (number = RUGHTENA_ACCEPTED; number <= RUGHTENA_SWITCH_VALUE + 1; number++) {
+        const char *text = RUGHTENA_TEXT(number);
+        for (other = RUGHTENA_ACCEPTED; other < number; other++) {
+            same("equal texts", number, other, 0, strcmp(text, RUGHTENA_TEXT(other)) == 0);
+        }
+    }
+    same("text of 0", 0, 0, 0, strcmp(RUGHTENA_TEXT(0), "accepted") != 0);
+    same("text of 12", 0, 0, 0, strcmp(RUGHTENA_TEXT(RUGHTENA_BUFFER_SHORT), "a lent buffer is shorter than needed") != 0);
+    same("text of 16", 0, 0, 0, strcmp(RUGHTENA_TEXT(16), RUGHTENA_TEXT((size_t)-1)) != 0);
+    same("size of a text", 0, 0, sizeof(const char *), sizeof(RUGHTENA_TEXT(1)));
+}
+
+static void version(void) { same("version", 0, 0, RUGHTENA_VERSION, rughtena_version()); }
+
+int main(void) {
+    size_t i;
+    for (i = 0; i < RUGHTENA_MOST_WORDS; i++) {
+        images[i] = (uint16_t)i;
+    }
+    lengths();
+    switches();
+    numbers_of_sets();
+    numbers_of_lines();
+    numbers_of_steps();
+    texts();
+    version();
+    return failures != 0;
+}
