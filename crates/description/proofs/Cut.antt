@@ -6,7 +6,7 @@ use mathlib.Core.List.{List}
 use native.Mathlib.Omega.{arith}
 use lib.ListN.{take, replicate}
 use Rattle.limits.specs.Limits.{mostWords}
-use Rattle.tables.proofs.Cut.{read-cut}
+use Rattle.reading.proofs.Cut.{read-cut}
 use Rattle.description.specs.Description.{textOf, descriptionOf}
 
 pub description-cut : (file : List ℕ) (k : ℕ) → 12292 ≤ k → descriptionOf (take k file) ≡ descriptionOf file

@@ -36,13 +36,13 @@ use Rattle.text.specs.Text.{decimal}
 use Rattle.text.specs.inner.Writing.{Wrote}
 use Rattle.text.proofs.Texts.{wrote-length, wrote-none, wrote-append, wrote-more}
 use Rattle.text.proofs.Decimals.{decimal-length}
-use Rattle.tables.specs.Reading.{readOutcome, readOf}
-use Rattle.tables.specs.declared.Contents.{Contents}
-use Rattle.tables.specs.declared.Reading.{Reading}
-use Rattle.tables.specs.declared.Reading.the-variants.{Read, Refused}
+use Rattle.reading.specs.Reading.{readOutcome, readOf}
+use Rattle.reading.specs.declared.Contents.{Contents}
+use Rattle.reading.specs.declared.Reading.{Reading}
+use Rattle.reading.specs.declared.Reading.the-variants.{Read, Refused}
 use Rattle.tables.proofs.Dims.{Dims}
 use Rattle.tables.proofs.Form.{opened-dims}
-use Rattle.tables.proofs.Exact.{read-performs}
+use Rattle.reading.proofs.Exact.{read-performs}
 use Rattle.description.specs.Description.{wordsText, widthText, separator, leavers, setText, refusalText, textOf, descriptionOf, told, tellOf}
 
 -- a number below 10,000 takes at most four characters

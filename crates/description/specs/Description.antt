@@ -9,9 +9,9 @@ use Rattle.laws.specs.Permutation.{inverse}
 use Rattle.text.specs.Text.{decimal}
 use Rattle.refusal.specs.Refusals.{numberOf}
 use Rattle.images.specs.Images.{orderOf}
-use Rattle.tables.specs.Reading.{ReadOutcome, readOutcome, readOf}
+use Rattle.reading.specs.Reading.{ReadOutcome, readOutcome, readOf}
 use Rattle.laws.specs.Tabulate.{joined}
-use Rattle.tables.specs.declared.Reading.the-variants.{Read, Refused}
+use Rattle.reading.specs.declared.Reading.the-variants.{Read, Refused}
 
 -- "words ", " width ", "refused "
 unfoldable pub wordsText : List ℕ

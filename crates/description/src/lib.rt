@@ -8,7 +8,7 @@ ghost use Rattle.description.specs.Description.{separator, leavers, setT
 use limits::MOST_WORDS;
 use limits::NO_WORD;
 use limits::TEXT_ROOM;
-use tables::Reading;
+use reading::Reading;
 use text::put_number;
 use text::put_text;
 
@@ -72,7 +72,7 @@ pub fn describe(file: &[u8], text: &mut [u8]) -> usize
         return 0;
     }
     let mut words = [NO_WORD; MOST_WORDS];
-    match tables::read_leavers(file, &mut words) {
+    match reading::read_leavers(file, &mut words) {
         Reading::Refused(refusal) => put_refusal(text, refusal.number()),
         Reading::Read(contents) => put_set(text, &words, contents.words, contents.width),
     }

@@ -26,11 +26,11 @@ use Rattle.passing.specs.Calls.{firstBad, passageOf, followOf, followedReply}
 use Rattle.passing.specs.declared.following.Followed.{Followed}
 use Rattle.tables.specs.Terms.{cycles, fileLength}
 use Rattle.tables.specs.Header.{headerWords, headerWidth}
-use Rattle.tables.specs.Reading.{ReadOutcome, readOutcome, readOf, readingReply}
+use Rattle.reading.specs.Reading.{ReadOutcome, readOutcome, readOf, readingReply}
 use Rattle.tables.specs.Generated.{setOf as generatedSet}
 use Rattle.tables.proofs.SetBits.{length-setOf}
 use Rattle.tables.proofs.Form.{form-words, form-width, opened-form}
-use Rattle.tables.proofs.Exact.{read-cases}
+use Rattle.reading.proofs.Exact.{read-cases}
 use Rattle.generator.specs.Generating.{checksOf, Generates, generationReply}
 use Rattle.generator.proofs.Checking.{checks-passed}
 use Rattle.generator.specs.declared.Generation.{Generation}
@@ -49,8 +49,7 @@ use Rattle.rughtena.specs.Step.{Exported, exported, inNumbers, exportedStep, re
 use Rattle.rughtena.proofs.Clocks.{clock-kept, clock-put}
 use Rattle.refusal.proofs.Numbers.{number-range}
 use Rattle.rughtena.proofs.Numbers.{reply-refuses}
-use Rattle.promises.specs.Demand1.{Memory, memory, Unaltered, Altered, Ends, refused, accepted, Only, Becomes, First, Taken, Leaving}
-use Rattle.promises.specs.Demand1.{saysWritten, nextNumbers, stepMemories, Lending}
+use Rattle.promises.specs.Demand1.{Memory, memory, Unaltered, Altered, Ends, refused, accepted, Only, Becomes, First, Taken, Leaving, saysWritten, nextNumbers, stepMemories, Lending}
 
 -- ---- the shape
 

@@ -12,12 +12,12 @@ use Rattle.images.specs.Images.{orderOf}
 use Rattle.tables.specs.Terms.{fileLength}
 use Rattle.tables.specs.Format.{Form}
 use Rattle.tables.specs.Datapath.{Performs}
-use Rattle.tables.specs.Reading.{ReadOutcome, readOutcome, contentsOf, readAs, readOf, readingReply}
-use Rattle.tables.specs.declared.Contents.{Contents}
-use Rattle.tables.specs.declared.Reading.the-variants.{Read, Refused}
+use Rattle.reading.specs.Reading.{ReadOutcome, readOutcome, contentsOf, readAs, readOf, readingReply}
+use Rattle.reading.specs.declared.Contents.{Contents}
+use Rattle.reading.specs.declared.Reading.the-variants.{Read, Refused}
 use Rattle.tables.proofs.Form.{form-opened, opened-form, setOf-form}
 use Rattle.tables.proofs.Performs.{performs-unique}
-use Rattle.tables.proofs.Exact.{read-cases, read-exact, generated-reads}
+use Rattle.reading.proofs.Exact.{read-cases, read-exact, generated-reads}
 use Rattle.generator.specs.Generating.{Generable, Generates}
 use Rattle.generator.specs.declared.Generation.{Generation}
 use Rattle.generator.proofs.Checking.{passed-checks}

@@ -7,9 +7,9 @@ use Rattle.refusal.specs.Replies.{accepts}
 use Rattle.images.specs.Images.{orderOf}
 use Rattle.tables.specs.Terms.{fileLength}
 use Rattle.tables.specs.Generated.{setOf}
-use Rattle.tables.specs.Reading.{readAs, readOf, readingReply}
+use Rattle.reading.specs.Reading.{readAs, readOf, readingReply}
 use Rattle.tables.proofs.SetBits.{length-setOf}
-use Rattle.tables.proofs.Exact.{read-performs, generated-reads}
+use Rattle.reading.proofs.Exact.{read-performs, generated-reads}
 use Rattle.machine.specs.Devices.{Feed, run}
 use Rattle.machine.specs.Step.{fresh}
 use Rattle.machine.specs.Machine.{machine}

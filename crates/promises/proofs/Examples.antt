@@ -21,14 +21,13 @@ use Rattle.passing.specs.Calls.{firstBad, passageOf, followOf, followedReply}
 use Rattle.tables.specs.Terms.{limitTest, logFrom, logUp, cycles, addressBits, depth, switchBits, addressRow, lineBits, fileLength}
 use Rattle.tables.specs.Header.{headerOf, headerBits, headerWords, headerWidth, headerZeros}
 use Rattle.tables.specs.Format.{lineAt, readAddress, switchBit, writeAddress, filling, shapeOf, headerTest, lengthTest, openOf}
-use Rattle.tables.specs.Datapath.{carriedTo, target, readStrays, carryStrays, writeStrays}
+use Rattle.tables.specs.Datapath.{carriedTo, target, readStrays, carryStrays, writeStrays, imageOf}
 use Rattle.tables.specs.Generated.{wordOf, portOf, writeOf, lineOf, setBits, setOf}
-use Rattle.tables.specs.Reading.{readFault, writeFault, scanLines, imageOf, readLines, readOpened, readOf, readingReply}
+use Rattle.reading.specs.Reading.{readFault, writeFault, scanLines, readLines, readOpened, readOf, readingReply}
 use Rattle.generator.specs.Generating.{scratchNeed, lentTest, checksOf, Generates, generationReply}
 use Rattle.generator.specs.declared.Generation.{Generation}
 use Rattle.machine.specs.Devices.{run}
-use Rattle.machine.specs.Step.{spot, fresh, nextFrame, nextClock, leaving, moving, entering, advanceOf, saysOf, accepted}
-use Rattle.machine.specs.Step.{bufferTest, clockTest, lineTest, stepLine, stepOpened, stepOf}
+use Rattle.machine.specs.Step.{spot, fresh, nextFrame, nextClock, leaving, moving, entering, advanceOf, saysOf, accepted, bufferTest, clockTest, lineTest, stepLine, stepOpened, stepOf}
 use Rattle.machine.specs.Machine.{said, clockAfter, carded, machine, stepReply}
 use Rattle.machine.specs.Plain.{empty, given, took, turned, plain}
 use Rattle.promises.specs.Examples.{generationOf, answer, examples, ExamplesHold}

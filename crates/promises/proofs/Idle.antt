@@ -17,10 +17,10 @@ use Rattle.images.specs.Images.{orderOf}
 use Rattle.tables.specs.Terms.{Dims, cycles, fileLength}
 use Rattle.tables.specs.Generated.{Schedule, setOf}
 use Rattle.tables.specs.Format.{Form, openOf}
-use Rattle.tables.specs.Reading.{readOf, readingReply}
+use Rattle.reading.specs.Reading.{readOf, readingReply}
 use Rattle.tables.specs.declared.Opened.the-variants.{Refused as Unopened}
 use Rattle.tables.proofs.Cut.{cut-short, cut-long}
-use Rattle.tables.proofs.Exact.{read-unopened}
+use Rattle.reading.proofs.Exact.{read-unopened}
 use Rattle.tables.proofs.Form.{setOf-form}
 use Rattle.tables.proofs.ReadsBack.{setOf-performs}
 use Rattle.machine.specs.Devices.{Feed, feed, Seen, seen, filling, wrote, After, run}

@@ -16,8 +16,8 @@ use Rattle.passing.specs.declared.following.Followed.{Followed}
 use Rattle.tables.specs.Terms.{cycles, fileLength}
 use Rattle.tables.specs.Header.{headerWords, headerWidth}
 use Rattle.tables.specs.Format.{writeAddress}
-use Rattle.tables.specs.Reading.{readOf, readOutcome, readingReply}
-use Rattle.tables.specs.declared.Reading.{Reading}
+use Rattle.reading.specs.Reading.{readOf, readOutcome, readingReply}
+use Rattle.reading.specs.declared.Reading.{Reading}
 use Rattle.generator.specs.Generating.{Generates, generationReply}
 use Rattle.generator.specs.declared.Generation.{Generation}
 use Rattle.machine.specs.Step.{spot, nextClock, stepOf, stepOutcome}

@@ -12,11 +12,11 @@ use Rattle.images.specs.Images.{orderOf}
 use Rattle.tables.specs.Terms.{fileLength}
 use Rattle.tables.specs.Format.{Form}
 use Rattle.tables.specs.Datapath.{Performs}
-use Rattle.tables.specs.Reading.{ReadOutcome, readOutcome, readingReply}
+use Rattle.reading.specs.Reading.{ReadOutcome, readOutcome, readingReply}
 use Rattle.generator.specs.Generating.{Generable, Generates}
 use Rattle.generator.specs.declared.Generation.{Generation}
 
--- a reader: from a file, lent images and lent scratch to an answer with the images afterwards. The contract of `tables::read` says that it is
+-- a reader: from a file, lent images and lent scratch to an answer with the images afterwards. The contract of `reading::read` says that it is
 -- the reader `readOf`
 abbrev pub Reader : Type 0
 Reader = List ℕ → List ℕ → List ℕ → ReadOutcome

@@ -9,7 +9,7 @@ use lib.ListN.{length, take}
 use Rattle.refusal.specs.Replies.{accepts}
 use Rattle.images.specs.Images.{orderOf}
 use Rattle.tables.specs.Terms.{fileLength}
-use Rattle.tables.specs.Reading.{readOf}
+use Rattle.reading.specs.Reading.{readOf}
 use Rattle.machine.specs.Devices.{Feed, run}
 use Rattle.machine.specs.Step.{fresh}
 use Rattle.machine.specs.Machine.{machine}

@@ -14,7 +14,7 @@ use Rattle.passing.specs.Calls.{followOf, followedReply}
 use Rattle.tables.specs.Terms.{cycles, switchBits, fileLength}
 use Rattle.tables.specs.Format.{readAddress, switchBit, writeAddress}
 use Rattle.tables.specs.Generated.{setOf}
-use Rattle.tables.specs.Reading.{ReadOutcome, readOutcome, readOf, readingReply}
+use Rattle.reading.specs.Reading.{ReadOutcome, readOutcome, readOf, readingReply}
 use Rattle.generator.specs.Generating.{extentOf, checksOf, generationReply}
 use Rattle.generator.specs.declared.Generation.{Generation}
 use Rattle.generator.specs.declared.Generation.the-variants.{Written as Made, Refused as Unmade}

@@ -7,7 +7,7 @@ use lib.ListN.{length, take}
 use Rattle.refusal.specs.Replies.{accepts, refuses}
 use Rattle.images.specs.Images.{orderOf}
 use Rattle.tables.specs.Terms.{cycles, fileLength}
-use Rattle.tables.specs.Reading.{readOf}
+use Rattle.reading.specs.Reading.{readOf}
 use Rattle.machine.specs.Devices.{filling, wrote, refused, Seen, seen, Feed, feed, After, run}
 use Rattle.machine.specs.Plain.{plain, empty}
 use Rattle.generator.specs.Generating.{Generable, Generates, generationReply}

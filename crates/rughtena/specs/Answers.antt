@@ -10,8 +10,8 @@ use Rattle.passing.specs.Calls.{followedReply}
 use Rattle.passing.specs.declared.following.Followed.{Followed}
 use Rattle.setting.specs.Calls.{settingReply}
 use Rattle.setting.specs.declared.Setting.{Setting}
-use Rattle.tables.specs.Reading.{readingReply}
-use Rattle.tables.specs.declared.Reading.{Reading}
+use Rattle.reading.specs.Reading.{readingReply}
+use Rattle.reading.specs.declared.Reading.{Reading}
 use Rattle.machine.specs.Machine.{stepReply}
 use Rattle.machine.specs.declared.Clock.{Clock}
 use Rattle.machine.specs.declared.Stepped.{Stepped}

@@ -9,9 +9,9 @@ use generator::Generation;
 use machine::Clock;
 use machine::Stepped;
 use passing::Followed;
+use reading::Reading;
 use refusal::Refusal;
 use setting::Setting;
-use tables::Reading;
 
 // A refusal's number and place.
 fn of_refusal(refusal: Refusal) -> Answer

@@ -5,8 +5,8 @@ ghost use mathlib.Core.Path.{_≡_};
 ghost use Rattle.passing.specs.Calls.{followOf};
 ghost use Rattle.setting.specs.Calls.{settingOf, setOutcome};
 ghost use Rattle.setting.specs.declared.Setting.{Setting};
-ghost use Rattle.tables.specs.Reading.{readOf, readOutcome};
-ghost use Rattle.tables.specs.declared.Reading.{Reading};
+ghost use Rattle.reading.specs.Reading.{readOf, readOutcome};
+ghost use Rattle.reading.specs.declared.Reading.{Reading};
 ghost use Rattle.generator.specs.Generating.{Generates};
 ghost use Rattle.generator.specs.declared.Generation.{Generation};
 ghost use Rattle.rughtena.specs.Answers.{lineAnswer, settingAnswer, readingAnswer, generationAnswer};
@@ -19,8 +19,8 @@ use generator::generate;
 use machine::Clock;
 use machine::step;
 use passing::follow;
+use reading::read;
 use setting::set;
-use tables::read;
 
 // An accepted call has number 0 and its value, a refused one the refusal's number and place.
 #[repr(C)]

@@ -1,10 +1,9 @@
--- Files that are cut. Behind 12,292 bytes or more what is left opens and reads as the whole does: the longest set has 12,291 bytes, so a
+-- Files that are cut. Behind 12,292 bytes or more what is left opens as the whole does: the longest set has 12,291 bytes, so a
 -- longer file is refused in opening, by its header (7) or by its length (8). A file that begins with a set is refused by 6 where it is cut
 -- within the set, and by 8 where it goes on behind it. All since the header lies in the first three bytes.
 use Prim.Native.Nat.{ℕ, _+_, _<_, _≤_}
 use mathlib.Core.Path.{_≡_, refl, sym, ap, _∙_}
 use mathlib.Core.List.{List}
-use mathlib.Core.Logic.{⊎-elim}
 use native.Mathlib.Omega.{arith}
 use native.Mathlib.Decide.{decLe, decLt}
 use lib.ListN.{length, take, length-take}
@@ -17,7 +16,6 @@ use Rattle.tables.specs.Terms.{fileLength, limitsOf}
 use Rattle.tables.specs.Header.{leastHeader, headerWords, headerWidth, headerZeros}
 use Rattle.tables.specs.Format.{Form, headerTest, lengthTest, openOf}
 use Rattle.tables.proofs.LimitTests.{limit-passes, limit-both}
-use Rattle.tables.specs.Reading.{readOf}
 use Rattle.tables.specs.declared.Opened.{Opened}
 use Rattle.tables.specs.declared.Opened.the-variants.{Refused}
 use Rattle.tables.specs.declared.Limits.the-variants.{Kept, Refused as Unkept}
@@ -25,8 +23,6 @@ use Rattle.tables.proofs.Dims.{Dims, fileLength-header}
 use Rattle.tables.proofs.Longest.{fileLength-longest}
 use Rattle.tables.proofs.Header.{begins-opens}
 use Rattle.tables.proofs.Opens.{opened-kept}
-use Rattle.tables.proofs.Form.{open-cases}
-use Rattle.tables.proofs.Exact.{read-unopened}
 
 -- a file longer than every set is judged by its header alone
 open-beyond : (file : List ℕ) → 12292 ≤ length file → openOf file ≡ headerTest file (Refused FileLong)
@@ -64,15 +60,6 @@ module _ (file : List ℕ) (k : ℕ) (l : 12292 ≤ k) where
     | no longer ↦
         let left : length (take k file) ≡ k = length-take-le k file (omega arith) in
         open-beyond (take k file) (omega arith) ∙ header-cut file k (Refused FileLong) (omega arith) ∙ sym (open-beyond file (omega arith))
-  ]
-
-  pub read-cut : (images scratch : List ℕ) → readOf (take k file) images scratch ≡ readOf file images scratch
-  read-cut images scratch = elim (decLe (length file) k) [
-    | yes whole ↦ ap (λ (z : List ℕ). readOf z images scratch) (take-all k file whole)
-    | no longer ↦
-        ⊎-elim (λ F. absurd (omega (arith, F .1 .long, fileLength-longest (F .1 .dims))))
-        (λ r. read-unopened (take k file) images scratch (r .0) (open-cut ∙ r .1) ∙ sym (read-unopened file images scratch (r .0) (r .1)))
-        (open-cases file)
   ]
 
 -- a file that begins with a set of n words and width w

@@ -4,14 +4,13 @@ pub mod Longest
 pub mod LimitTests
 pub mod Header
 pub mod Form
--- Which sets are accepted, what their lines do to a frame, and that acceptance is exact.
+-- What reading accepts, what the lines of such a set do to a frame, and that no other set performs a permutation.
 pub mod Accepted
 pub mod Moves
 pub mod Targets
 pub mod Within
 pub mod Performs
-pub mod Exact
--- That a file longer than every set is read as its front is.
+-- That a file longer than every set is opened as its front is.
 pub mod Cut
 -- The set that given read lines determine: where its bits stand, and that it reads back.
 pub mod SetBits
@@ -23,5 +22,3 @@ pub mod Opens
 pub mod Scans
 pub mod Passes
 pub mod Lined
-pub mod Marks
-pub mod Gathers

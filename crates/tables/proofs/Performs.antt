@@ -17,8 +17,7 @@ use Rattle.laws.proofs.Pigeonhole.{repeat-misses}
 use Rattle.laws.proofs.Permutations.{onto, permutes-ext}
 use Rattle.tables.specs.Terms.{cycles}
 use Rattle.tables.specs.Format.{readAddress, writeAddress}
-use Rattle.tables.specs.Datapath.{carriedTo, source, target, moveLines, Words, Performs}
-use Rattle.tables.specs.Reading.{imageOf}
+use Rattle.tables.specs.Datapath.{carriedTo, source, target, moveLines, Words, Performs, imageOf}
 use Rattle.tables.proofs.Dims.{Dims, word-below, word-injective}
 use Rattle.tables.proofs.Accepted.{Accepted}
 use Rattle.tables.proofs.Moves.{moveLines-other, moveLines-ext}

@@ -18,8 +18,7 @@ use Rattle.network.proofs.Carried.{carried-permutes, carried-performs}
 use Rattle.tables.specs.Terms.{cycles, addressBits, depth, switchBits, addressRow, fileLength}
 use Rattle.tables.specs.Header.{headerOf, Begins}
 use Rattle.tables.specs.Format.{lineAt, readAddress, switchBit, writeAddress, filling}
-use Rattle.tables.specs.Datapath.{carriedTo, source, target, Performs}
-use Rattle.tables.specs.Reading.{imageOf}
+use Rattle.tables.specs.Datapath.{carriedTo, source, target, Performs, imageOf}
 use Rattle.laws.specs.Tabulate.{joined}
 use Rattle.tables.specs.Generated.{wordOf, portOf, writeOf, Schedule, lineOf, setBits, setOf}
 use Rattle.tables.proofs.Dims.{Dims, depth-reaches, cycles-reached, address-below, word-below, word-injective}

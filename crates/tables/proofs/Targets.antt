@@ -12,8 +12,7 @@ use Rattle.laws.proofs.Permutations.{inverse-below, inverse-right}
 use Rattle.network.proofs.Leaves.{leaves-injective}
 use Rattle.tables.specs.Terms.{cycles, depth}
 use Rattle.tables.specs.Format.{readAddress, switchBit, writeAddress}
-use Rattle.tables.specs.Datapath.{carriedTo, source, target, moveLines}
-use Rattle.tables.specs.Reading.{imageOf}
+use Rattle.tables.specs.Datapath.{carriedTo, source, target, moveLines, imageOf}
 use Rattle.tables.proofs.Dims.{Dims, depth-reaches, address-below, word-below, word-injective}
 use Rattle.tables.proofs.Accepted.{Accepted}
 use Rattle.tables.proofs.Moves.{moveLines-at}

@@ -1,6 +1,6 @@
 -- The datapath, run on a set for one frame (document 01, "The table set"; document 002, sections II and III).
 -- Word i of a frame stands in bank i % w of the first memory at address i / w; place j is in bank j % w of the second at address j / w.
-use Prim.Native.Nat.{ℕ, zero, suc, _+_, _*_, _<_}
+use Prim.Native.Nat.{ℕ, zero, suc, _+_, _*_, _/_, _%_, _<_}
 use mathlib.Core.Path.{_≡_}
 use mathlib.Core.Bool.{Bool, true}
 use mathlib.Core.Option.{Option, some, none}
@@ -9,7 +9,7 @@ use lib.Dec.{leb}
 use lib.ListN.{length, getD, set}
 use Rattle.laws.specs.Choice.{choose}
 use Rattle.laws.specs.Any.{any}
-use Rattle.laws.specs.Permutation.{Permutes}
+use Rattle.laws.specs.Permutation.{Permutes, inverse}
 use Rattle.network.specs.Network.{leaves}
 use Rattle.tables.specs.Terms.{cycles, depth}
 use Rattle.tables.specs.Format.{readAddress, switchBit, writeAddress}
@@ -24,6 +24,10 @@ source n w file t b = readAddress n w file t b * w + b
 
 unfoldable pub target : ℕ → ℕ → List ℕ → ℕ → ℕ → ℕ
 target n w file t b = writeAddress n w file t (carriedTo n w file t b) * w + carriedTo n w file t b
+
+-- the place of word i: line s is the one in which i's bank reads i's address, and the word is taken at the target of line s
+unfoldable pub imageOf : ℕ → ℕ → List ℕ → ℕ → ℕ
+imageOf n w file i = target n w file (inverse (cycles n w) (λ s. readAddress n w file s (i % w)) (i / w)) (i % w)
 
 -- a read address of line t is c or more; a line below w is carried to w or above; a write address is c or more
 unfoldable pub readStrays : ℕ → ℕ → List ℕ → ℕ → Bool

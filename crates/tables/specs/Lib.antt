@@ -2,6 +2,5 @@ pub mod Header
 pub mod Terms
 pub mod Format
 pub mod Datapath
-pub mod Reading
 pub mod Generated
 pub mod inner

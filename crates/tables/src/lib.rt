@@ -1,10 +1,7 @@
-// Table sets: the form of a file, the lines of a set, and reading.
-mod gathering;
+// Table sets: the form of a file, and the lines of a set.
 mod lines;
 mod opening;
 
-pub use gathering::read;
-pub use gathering::read_leavers;
 pub use lines::any_from;
 pub use lines::line_at;
 pub use lines::numbered;
@@ -44,18 +41,5 @@ pub enum Limits {
 
 pub enum Opened {
     Set(Shape),
-    Refused(Refusal),
-}
-
-// What an accepted reading returns beside the written images.
-pub struct Contents {
-    // n, the words of a frame.
-    pub words: usize,
-    // w, the words of a cycle.
-    pub width: usize,
-}
-
-pub enum Reading {
-    Read(Contents),
     Refused(Refusal),
 }

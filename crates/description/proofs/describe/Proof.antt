@@ -8,7 +8,7 @@ use Rattle.limits.specs.Limits.{mostWords, textRoom}
 use Rattle.laws.proofs.Choices.{ifLt-yes}
 use Rattle.text.proofs.Texts.{wrote-same}
 use Rattle.refusal.specs.declared.Refusal.{Refusal}
-use Rattle.tables.specs.declared.Contents.{Contents}
+use Rattle.reading.specs.declared.Contents.{Contents}
 use Rattle.description.specs.Description.{refusalText, tellOf}
 use Rattle.description.proofs.Texts.{number-short, ReadLeavers, SetRead, set-read, refusal-read, tells}
 use Rattle.description.proofs.describe.Statement.{statement}

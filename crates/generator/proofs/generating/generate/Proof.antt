@@ -3,8 +3,7 @@ use mathlib.Core.Path.{_≡_, sym, _∙_}
 use borrow.Author.Needs.{needs}
 use lib.ListN.{length}
 use Rattle.images.specs.declared.Checked.the-variants.{Permutation}
-use Rattle.generator.specs.Generating.{checksOf}
-use Rattle.generator.specs.Generating.{Generable}
+use Rattle.generator.specs.Generating.{checksOf, Generable}
 use Rattle.generator.proofs.Checking.{checks-passed, scratch-enough, generates-refused, generates-made}
 use Rattle.generator.proofs.generating.generate.Statement.{statement}
 use Rattle.generator.proofs.generating.generate.Tie as tie

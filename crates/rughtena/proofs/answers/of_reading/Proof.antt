@@ -2,7 +2,7 @@
 use mathlib.Core.Path.{refl}
 use borrow.Author.Needs.{needs}
 use Rattle.refusal.specs.Replies.{refusalReply}
-use Rattle.tables.specs.Reading.{readingReply}
+use Rattle.reading.specs.Reading.{readingReply}
 use Rattle.rughtena.specs.Answers.{readingAnswer, readAnswerOf}
 use Rattle.rughtena.proofs.answers.of_reading.Statement.{statement}
 use Rattle.rughtena.proofs.answers.of_reading.Tie as tie

@@ -14,20 +14,21 @@ use Rattle.laws.proofs.Choices.{ifLt-yes, ifLt-no, zero-not-one}
 use Rattle.laws.proofs.Tabulates.{getD-overwrite, overwrite-ext}
 use Rattle.refusal.specs.declared.Refusal.{Refusal}
 use Rattle.refusal.specs.declared.Refusal.the-variants.{BufferShort}
 use Rattle.tables.specs.Terms.{cycles}
 use Rattle.tables.specs.Header.{headerWords, headerWidth}
 use Rattle.tables.specs.Format.{shapeOf, openOf}
-use Rattle.tables.specs.Datapath.{Performs}
-use Rattle.tables.specs.Reading.{readOutcome, contentsOf, readAs, scanLines, imageOf, readLines, readOpened, readOf}
+use Rattle.tables.specs.Datapath.{Performs, imageOf}
+use Rattle.reading.specs.Reading.{readOutcome, contentsOf, readAs, scanLines, readLines, readOpened, readOf}
 use Rattle.tables.specs.Generated.{Schedule, setOf}
 use Rattle.tables.specs.declared.Opened.the-variants.{Set, Refused}
-use Rattle.tables.specs.declared.Contents.{Contents}
-use Rattle.tables.specs.declared.Reading.the-variants.{Refused as Unread}
+use Rattle.reading.specs.declared.Contents.{Contents}
+use Rattle.reading.specs.declared.Reading.the-variants.{Refused as Unread}
 use Rattle.tables.proofs.Dims.{Dims}
-use Rattle.tables.proofs.Accepted.{Accepted, scan-cases, accepted-scan}
+use Rattle.tables.proofs.Accepted.{Accepted}
+use Rattle.reading.proofs.Scanned.{scan-cases, accepted-scan}
 use Rattle.tables.proofs.Performs.{accepted-performs, performs-accepted, performs-image, performs-ext}
 use Rattle.tables.proofs.Form.{opened-form, open-cases, setOf-opened}
 use Rattle.tables.proofs.ReadsBack.{setOf-performs}
 
 -- what a reading tells that is accepted as n words of width w, with the images `after`
 pub record Performed (file images scratch : List ℕ) (n w : ℕ) (after : List ℕ) : Type 0 where

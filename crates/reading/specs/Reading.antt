@@ -1,5 +1,5 @@
--- Reading a set: the refusals 9, 10 and 11 line by line, the permutation that an accepted set performs, and the call.
-use Prim.Native.Nat.{ℕ, zero, suc, _+_, _*_, _/_, _%_}
+-- Reading a set: the refusals 9, 10 and 11 line by line, and the call.
+use Prim.Native.Nat.{ℕ, zero, suc, _+_, _*_}
 use mathlib.Core.Bool.{Bool, true}
 use mathlib.Core.List.{List, [], _∷_}
 use lib.Dec.{leb, eqb}
@@ -8,17 +8,16 @@ use Rattle.refusal.specs.Replies.{Reply, accepts, refusalReply}
 use Rattle.laws.specs.Choice.{choose, ifLt}
 use Rattle.laws.specs.Any.{any}
 use Rattle.laws.specs.Tabulate.{overwrite}
-use Rattle.laws.specs.Permutation.{inverse}
 use Rattle.refusal.specs.declared.Refusal.{Refusal}
 use Rattle.refusal.specs.declared.Refusal.the-variants.{ReadAddress, SpareLine, WriteAddress, BufferShort}
 use Rattle.tables.specs.Terms.{cycles}
 use Rattle.tables.specs.Format.{readAddress, writeAddress, openOf}
-use Rattle.tables.specs.Datapath.{target, carryStrays}
+use Rattle.tables.specs.Datapath.{carryStrays, imageOf}
 use Rattle.tables.specs.declared.Opened.{Opened}
 use Rattle.tables.specs.declared.Opened.the-variants.{Set, Refused}
-use Rattle.tables.specs.declared.Contents.{Contents}
-use Rattle.tables.specs.declared.Reading.{Reading}
-use Rattle.tables.specs.declared.Reading.the-variants.{Read, Refused as Unread}
+use Rattle.reading.specs.declared.Contents.{Contents}
+use Rattle.reading.specs.declared.Reading.{Reading}
+use Rattle.reading.specs.declared.Reading.the-variants.{Read, Refused as Unread}
 
 -- 9: "a read address in line t is c or more, or that bank has read it before"
 unfoldable pub readFault : ℕ → ℕ → List ℕ → ℕ → ℕ → Bool
@@ -50,10 +49,6 @@ scanLines n w file (suc k) t refused next =
     choose (any w (readFault n w file t)) (refused (ReadAddress t))
     (choose (carryStrays n w file t) (refused (SpareLine t))
     (choose (any w (writeFault n w file t)) (refused (WriteAddress t)) (scanLines n w file k (t + 1) refused next)))
-
--- the place of word i: line s is the one in which i's bank reads i's address, and the word is taken at the target of line s
-unfoldable pub imageOf : ℕ → ℕ → List ℕ → ℕ → ℕ
-imageOf n w file i = target n w file (inverse (cycles n w) (λ s. readAddress n w file s (i % w)) (i / w)) (i % w)
 
 -- reading a set of the right form, of n words and width w: 12, then the lines; accepted, the first n images are written
 unfoldable pub readLines : ℕ → ℕ → List ℕ → List ℕ → List ℕ → ReadOutcome

@@ -1,4 +1,4 @@
--- `tables::gathering::gather_line` meets its contract: the three tests are those of the scan, and a line that passes is marked.
+-- `reading::gathering::gather_line` meets its contract: the three tests are those of the scan, and a line that passes is marked.
 use Prim.Native.Nat.{ℕ, _*_}
 use mathlib.Core.Path.{_≡_, sym, _∙_}
 use mathlib.Core.Bool.{Bool, false}
@@ -6,14 +6,14 @@ use mathlib.Core.List.{List}
 use native.Mathlib.Omega.{arith}
 use borrow.Author.Needs.{needs}
 use Rattle.laws.specs.Any.{any}
 use Rattle.tables.specs.Datapath.{carryStrays}
-use Rattle.tables.specs.Reading.{readFault, writeFault}
+use Rattle.reading.specs.Reading.{readFault, writeFault}
 use Rattle.tables.proofs.Dims.{cycles-mul, depth-reaches, lines-few}
-use Rattle.tables.proofs.Accepted.{scan-read, scan-carry, scan-write}
+use Rattle.reading.proofs.Scanned.{scan-read, scan-carry, scan-write}
 use Rattle.tables.proofs.Lined.{spare-strays}
-use Rattle.tables.proofs.Gathers.{read-faults, write-faults, markable, gather-more}
-use Rattle.tables.proofs.gathering.gather_line.Statement.{statement}
-use Rattle.tables.proofs.gathering.gather_line.Tie as tie
+use Rattle.reading.proofs.Gathers.{read-faults, write-faults, markable, gather-more}
+use Rattle.reading.proofs.gathering.gather_line.Statement.{statement}
+use Rattle.reading.proofs.gathering.gather_line.Tie as tie
 
 -- a test of the line
 abbrev own : (ℕ → ℕ → List ℕ → ℕ → Bool) → tie.Start → Bool

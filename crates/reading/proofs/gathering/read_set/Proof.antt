@@ -1,4 +1,4 @@
--- `tables::gathering::read_set` meets its contract: each return stands at its place in the definition, and what was gathered are the images.
+-- `reading::gathering::read_set` meets its contract: each return stands at its place in the definition, and what was gathered are the images.
 use Prim.Native.Nat.{ℕ}
 use mathlib.Core.Path.{refl, sym, ap, subst, _∙_}
 use mathlib.Core.List.{List}
@@ -7,13 +7,14 @@ use lib.ListN.{length}
 use Rattle.laws.specs.Tabulate.{overwrite}
 use Rattle.laws.proofs.Choices.{ifLt-yes, ifLt-no}
 use Rattle.laws.proofs.Tabulates.{overwrite-ext}
-use Rattle.tables.specs.Reading.{readOutcome, readAs, imageOf, readLines}
-use Rattle.tables.specs.inner.Gathering.{Gather, GathersAll}
-use Rattle.tables.specs.declared.Reading.the-variants.{Refused}
-use Rattle.tables.specs.declared.gathering.Gathered.{Gathered}
-use Rattle.tables.proofs.Gathers.{gather-none, gather-images, gather-scan}
-use Rattle.tables.proofs.gathering.read_set.Statement.{statement}
-use Rattle.tables.proofs.gathering.read_set.Tie as tie
+use Rattle.reading.specs.Reading.{readOutcome, readAs, readLines}
+use Rattle.tables.specs.Datapath.{imageOf}
+use Rattle.reading.specs.inner.Gathering.{Gather, GathersAll}
+use Rattle.reading.specs.declared.Reading.the-variants.{Refused}
+use Rattle.reading.specs.declared.gathering.Gathered.{Gathered}
+use Rattle.reading.proofs.Gathers.{gather-none, gather-images, gather-scan}
+use Rattle.reading.proofs.gathering.read_set.Statement.{statement}
+use Rattle.reading.proofs.gathering.read_set.Tie as tie
 
 returns : tie.Need-returns
 unfolding readLines

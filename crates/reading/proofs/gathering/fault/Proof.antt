@@ -1,11 +1,11 @@
--- `tables::gathering::fault` meets its contract: a turn finds bank b faulty, or goes on with all banks below b + 1 sound.
+-- `reading::gathering::fault` meets its contract: a turn finds bank b faulty, or goes on with all banks below b + 1 sound.
 use Prim.Native.Nat.{_-_}
 use native.Mathlib.Omega.{arith}
 use borrow.Author.Needs.{needs}
 use lib.Arith.{digits-lt}
-use Rattle.tables.proofs.Marks.{Sound, sound-none, fault-outside, fault-marked, sound-more, sound-all}
-use Rattle.tables.proofs.gathering.fault.Statement.{statement}
-use Rattle.tables.proofs.gathering.fault.Tie as tie
+use Rattle.reading.proofs.Marks.{Sound, sound-none, fault-outside, fault-marked, sound-more, sound-all}
+use Rattle.reading.proofs.gathering.fault.Statement.{statement}
+use Rattle.reading.proofs.gathering.fault.Tie as tie
 
 abbrev Inv-loop : tie.InvT-loop
 Inv-loop addresses marks width cycles b₀ b = Sound addresses marks width cycles b

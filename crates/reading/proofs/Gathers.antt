@@ -22,21 +22,22 @@ use Rattle.laws.proofs.Permutations.{onto, inverse-unique, inverse-ext}
 use Rattle.refusal.specs.declared.Refusal.{Refusal}
 use Rattle.network.specs.Network.{leaves}
 use Rattle.network.proofs.Carried.{leaves-kept}
 use Rattle.tables.specs.Terms.{cycles, depth}
 use Rattle.tables.specs.Format.{readAddress, switchBit, writeAddress, openOf}
-use Rattle.tables.specs.Datapath.{carriedTo, source, target, carryStrays}
-use Rattle.tables.specs.Reading.{ReadOutcome, readOutcome, readFault, writeFault, contentsOf, readAs, scanLines, imageOf, readLines, readOpened, readOf}
+use Rattle.tables.specs.Datapath.{carriedTo, source, target, carryStrays, imageOf}
+use Rattle.reading.specs.Reading.{ReadOutcome, readOutcome, readFault, writeFault, contentsOf, readAs, scanLines, readLines, readOpened, readOf}
 use Rattle.tables.specs.declared.Shape.{Shape}
 use Rattle.tables.specs.declared.Opened.the-variants.{Set}
-use Rattle.tables.specs.declared.Contents.{Contents}
-use Rattle.tables.specs.declared.Reading.the-variants.{Read, Refused as Unread}
+use Rattle.reading.specs.declared.Contents.{Contents}
+use Rattle.reading.specs.declared.Reading.the-variants.{Read, Refused as Unread}
 use Rattle.tables.specs.inner.Lines.{Line}
-use Rattle.tables.specs.inner.Gathering.{faulty, wordAt, placeAt, Gather, Markable, Marked}
+use Rattle.reading.specs.inner.Gathering.{faulty, wordAt, placeAt, Gather, Markable, Marked}
 use Rattle.tables.proofs.Dims.{Dims, word-below, word-injective, depth-reaches}
-use Rattle.tables.proofs.Accepted.{Accepted, Passes, sound-below, sound-fresh, passes-accepted, accepted-scan, scan-passes}
+use Rattle.tables.proofs.Accepted.{Accepted}
+use Rattle.reading.proofs.Scanned.{Passes, sound-below, sound-fresh, passes-accepted, accepted-scan, scan-passes}
 use Rattle.tables.proofs.Targets.{source-found, image-permutes}
 use Rattle.tables.proofs.Lined.{read-is, write-is, source-is}
-use Rattle.tables.proofs.Marks.{faultAt}
+use Rattle.reading.proofs.Marks.{faultAt}
 
 -- nothing gathered
 pub gather-none : (n w : ℕ) (file : List ℕ) → Dims n w → Gather n w file 0 (replicate mostWords noWord) (replicate mostWords noWord)

@@ -1,4 +1,4 @@
--- `tables::gathering::gather` meets its contract: a line is refused, which stops the scan there, or the scan goes on behind it. The arrays of
+-- `reading::gathering::gather` meets its contract: a line is refused, which stops the scan there, or the scan goes on behind it. The arrays of
 -- a line keep their lengths.
 use Prim.Native.Nat.{ℕ, _-_, _<_}
 use mathlib.Core.Path.{_≡_, subst, sym, _∙_}
@@ -6,12 +6,12 @@ use native.Mathlib.Omega.{arith}
 use borrow.Author.Needs.{needs}
 use lib.ListN.{length, length-replicate}
 use Rattle.limits.specs.Limits.{mostWidth, mostSwitches}
 use Rattle.tables.specs.Terms.{cycles}
-use Rattle.tables.specs.inner.Gathering.{Gathers}
-use Rattle.tables.specs.declared.gathering.Gathered.{Gathered}
-use Rattle.tables.proofs.Gathers.{Gathering, gathering-none, gathering-more, gathering-refused, gathering-all}
-use Rattle.tables.proofs.gathering.gather.Statement.{statement}
-use Rattle.tables.proofs.gathering.gather.Tie as tie
+use Rattle.reading.specs.inner.Gathering.{Gathers}
+use Rattle.reading.specs.declared.gathering.Gathered.{Gathered}
+use Rattle.reading.proofs.Gathers.{Gathering, gathering-none, gathering-more, gathering-refused, gathering-all}
+use Rattle.reading.proofs.gathering.gather.Statement.{statement}
+use Rattle.reading.proofs.gathering.gather.Tie as tie
 
 abbrev Inv-loop : tie.InvT-loop
 Inv-loop file shape places₀ words₀ cycles setting₀ reads₀ standing₀ writes₀ t₀ places words setting reads standing writes t =

@@ -6,24 +6,24 @@ ghost use lib.ListN.{length, getD, replicate};
 ghost use Rattle.limits.specs.Limits.{mostWords, mostWidth, mostSwitches, noWord};
 ghost use Rattle.laws.specs.Permutation.{inverse};
 ghost use Rattle.laws.specs.Tabulate.{overwrite};
 ghost use Rattle.tables.specs.Terms.{cycles};
 ghost use Rattle.tables.specs.Format.{Shaped};
-ghost use Rattle.tables.specs.Reading.{readOutcome, readLines, readOf};
-ghost use Rattle.tables.specs.declared.Contents.{Contents};
-ghost use Rattle.tables.specs.declared.Reading.the-variants.{Read};
-ghost use Rattle.tables.specs.inner.Gathering.{faulty, Gather, Gathers, GathersAll, Markable, Marked};
+ghost use Rattle.reading.specs.Reading.{readOutcome, readLines, readOf};
+ghost use Rattle.reading.specs.declared.Contents.{Contents};
+ghost use Rattle.reading.specs.declared.Reading.the-variants.{Read};
+ghost use Rattle.reading.specs.inner.Gathering.{faulty, Gather, Gathers, GathersAll, Markable, Marked};
 use crate::Contents;
-use crate::Opened;
 use crate::Reading;
-use crate::Shape;
-use crate::lines::line_at;
-use crate::lines::spare_used;
-use crate::opening::open;
 use limits::MOST_SWITCHES;
 use limits::MOST_WIDTH;
 use limits::MOST_WORDS;
 use limits::NO_WORD;
 use refusal::Refusal;
+use tables::Opened;
+use tables::Shape;
+use tables::line_at;
+use tables::open;
+use tables::spare_used;
 
 enum Gathered {
     All,

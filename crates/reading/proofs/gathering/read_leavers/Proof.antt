@@ -1,4 +1,4 @@
--- `tables::gathering::read_leavers` meets its contract: the file has no form of a set, or a line is refused, or all lines passed and the
+-- `reading::gathering::read_leavers` meets its contract: the file has no form of a set, or a line is refused, or all lines passed and the
 -- gathered words are the inverse of the images that reading writes.
 use Prim.Native.Nat.{ℕ}
 use mathlib.Core.Path.{_≡_, sym, subst, _∙_}
@@ -8,18 +8,18 @@ use lib.ListN.{replicate}
 use Rattle.laws.proofs.Choices.{zero-not-one}
 use Rattle.limits.specs.Limits.{mostWords, noWord}
 use Rattle.laws.specs.Tabulate.{overwrite}
 use Rattle.tables.specs.Format.{Shaped, openOf}
-use Rattle.tables.specs.Reading.{imageOf}
-use Rattle.tables.specs.inner.Gathering.{Gather, GathersAll}
+use Rattle.tables.specs.Datapath.{imageOf}
+use Rattle.reading.specs.inner.Gathering.{Gather, GathersAll}
 use Rattle.tables.specs.declared.Opened.the-variants.{Set}
 use Rattle.tables.specs.declared.Shape.{Shape}
-use Rattle.tables.specs.declared.gathering.Gathered.{Gathered}
-use Rattle.tables.specs.declared.gathering.Gathered.the-variants.{All, Refused}
-use Rattle.tables.proofs.Exact.{read-unopened}
+use Rattle.reading.specs.declared.gathering.Gathered.{Gathered}
+use Rattle.reading.specs.declared.gathering.Gathered.the-variants.{All, Refused}
+use Rattle.reading.proofs.Exact.{read-unopened}
 use Rattle.tables.proofs.Form.{opened-shape}
-use Rattle.tables.proofs.Gathers.{gather-none, stopped-reads, gathered-reads, leavers-inverse}
-use Rattle.tables.proofs.gathering.read_leavers.Statement.{statement}
-use Rattle.tables.proofs.gathering.read_leavers.Tie as tie
+use Rattle.reading.proofs.Gathers.{gather-none, stopped-reads, gathered-reads, leavers-inverse}
+use Rattle.reading.proofs.gathering.read_leavers.Statement.{statement}
+use Rattle.reading.proofs.gathering.read_leavers.Tie as tie
 
 -- ---- the start of the call, and the shape of a file of the right form
 

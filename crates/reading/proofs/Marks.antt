@@ -15,7 +15,7 @@ use Rattle.laws.specs.Any.{any}
 use Rattle.laws.proofs.Choices.{choose-yes, choose-no}
 use Rattle.laws.proofs.Anys.{any-some, any-none}
 use Rattle.laws.proofs.Tabulates.{stored-turn}
-use Rattle.tables.specs.inner.Gathering.{faulty, wordAt, placeAt, Markable, Marked}
+use Rattle.reading.specs.inner.Gathering.{faulty, wordAt, placeAt, Markable, Marked}
 
 -- the test of bank b
 abbrev pub faultAt : List ℕ → List ℕ → ℕ → ℕ → ℕ → Bool

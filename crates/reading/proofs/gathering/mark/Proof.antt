@@ -1,13 +1,13 @@
--- `tables::gathering::mark` meets its contract: turn k marks the word and the place of bank k, and no other turn touches them.
+-- `reading::gathering::mark` meets its contract: turn k marks the word and the place of bank k, and no other turn touches them.
 use Prim.Native.Nat.{_-_, _≤_}
 use mathlib.Core.Path.{_≡_}
 use native.Mathlib.Omega.{arith}
 use borrow.Author.Needs.{needs}
 use lib.ListN.{getD}
-use Rattle.tables.specs.inner.Gathering.{Marked}
-use Rattle.tables.proofs.Marks.{marked-none, marked-more}
-use Rattle.tables.proofs.gathering.mark.Statement.{statement}
-use Rattle.tables.proofs.gathering.mark.Tie as tie
+use Rattle.reading.specs.inner.Gathering.{Marked}
+use Rattle.reading.proofs.Marks.{marked-none, marked-more}
+use Rattle.reading.proofs.gathering.mark.Statement.{statement}
+use Rattle.reading.proofs.gathering.mark.Tie as tie
 
 abbrev Inv-loop : tie.InvT-loop
 Inv-loop reads sources writes places₀ words₀ width k₀ places words k = (k ≤ width) × Marked reads sources writes width k places₀ words₀ places words

@@ -10,12 +10,12 @@ use Rattle.limits.specs.Limits.{mostWords, mostWidth, noWord}
 use Rattle.laws.specs.Choice.{choose}
 use Rattle.laws.specs.Any.{any}
 use Rattle.refusal.specs.declared.Refusal.{Refusal}
 use Rattle.tables.specs.Terms.{cycles}
 use Rattle.tables.specs.Format.{readAddress, writeAddress}
 use Rattle.tables.specs.Datapath.{carryStrays, source, target}
-use Rattle.tables.specs.Reading.{ReadOutcome, readFault, writeFault, scanLines}
-use Rattle.tables.specs.declared.gathering.Gathered.{Gathered}
-use Rattle.tables.specs.declared.gathering.Gathered.the-variants.{All, Refused}
+use Rattle.reading.specs.Reading.{ReadOutcome, readFault, writeFault, scanLines}
+use Rattle.reading.specs.declared.gathering.Gathered.{Gathered}
+use Rattle.reading.specs.declared.gathering.Gathered.the-variants.{All, Refused}
 
 -- an address of a bank is outside the frame, or its word or place is marked
 unfoldable pub faulty : List ℕ → List ℕ → ℕ → ℕ → Bool

@@ -1,0 +1,19 @@
+// Reading a table set: which permutation it performs, or why none.
+mod gathering;
+
+pub use gathering::read;
+pub use gathering::read_leavers;
+use refusal::Refusal;
+
+// What an accepted reading returns beside the written images.
+pub struct Contents {
+    // n, the words of a frame.
+    pub words: usize,
+    // w, the words of a cycle.
+    pub width: usize,
+}
+
+pub enum Reading {
+    Read(Contents),
+    Refused(Refusal),
+}
