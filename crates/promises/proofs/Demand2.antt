@@ -1,4 +1,4 @@
--- Demand 2 holds of `readOf`, by the laws of reading in crate tables. What is told of a reading determines it, so those laws carry over to
+-- Demand 2 holds of `readOf`, by the laws of crate reading. What is told of a reading determines it, so those laws carry over to
 -- document 01's numbers and values.
 use Prim.Native.Nat.{ℕ}
 use mathlib.Core.Path.{_≡_, ap, ap₂, _∙_}
