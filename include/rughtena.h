@@ -14,9 +14,11 @@
  * call writes overlaps nothing else that the call is lent. No call keeps a pointer, allocates, or has state of its own, so calls may
  * run at the same time on memory of their own.
  *
- * Terms: n words in a frame, 1 to 4,096; w words enter in each cycle, 1 to 64, and w divides n; c = n / w cycles; word i leaves at place
- * images[i]. a: the bits of an address, the least whole number with 2^a at least c (0 when c is 1). B: the switch bits of a network whose
- * lines are the least power of two not below w. Line t of a set: its addresses and switch bits for cycle t.
+ * Terms: n words in a frame, 1 to 4,096; w words enter in each cycle, 1 to 64; word i leaves at place images[i]. Padded n (document 02 calls
+ * it the longer n): the least multiple of w that is n or more. A frame takes whole cycles, so generating, which is given the n of an order,
+ * makes a set of the padded n, in which each word from n on keeps its place. The n of a set is a padded one, and w divides it. c = padded
+ * n / w cycles in a frame. a: the bits of an address, the least whole number with 2^a at least c (0 when c is 1). B: the switch bits of a
+ * network whose lines are the least power of two not below w. Line t of a set: its addresses and switch bits for cycle t.
  *
  * Refusals. A refused call alters no lent word, scratch included. Its number says why (enum rughtena_refusal), its place where (0 if the
  * number names none).
@@ -33,7 +35,7 @@ extern "C" {
 
 /* The version of this header. RUGHTENA_VERSION is one number, which grows with each version. */
 #define RUGHTENA_VERSION_MAJOR 0
-#define RUGHTENA_VERSION_MINOR 2
+#define RUGHTENA_VERSION_MINOR 3
 #define RUGHTENA_VERSION_PATCH 0
 #define RUGHTENA_VERSION (RUGHTENA_VERSION_MAJOR * 10000 + RUGHTENA_VERSION_MINOR * 100 + RUGHTENA_VERSION_PATCH)
 
@@ -50,11 +52,28 @@ extern "C" {
 /* Sizes of lent memory. Each is a size_t, and a constant expression where its arguments are, so that it can be the size of an array; a
  * preprocessor condition cannot hold it, and an argument is evaluated more than once. */
 
-/* The scratch words that generating needs. */
-#define RUGHTENA_GENERATE_SCRATCH(n) (4 * (size_t)(n) + 1024)
+/* w, but 1 for 0, so that a width of 0 is never divided by. */
+#define RUGHTENA_DIVISOR(w) ((size_t)(w) + (size_t)((size_t)(w) == 0))
 
-/* The scratch words that reading needs. */
-#define RUGHTENA_READ_SCRATCH(n) (2 * (size_t)(n))
+/* c, the cycles of a frame; w is not 0. */
+#define RUGHTENA_CYCLES(n, w)                                                                                                    \
+    ((size_t)(n) / RUGHTENA_DIVISOR(w) + (size_t)((size_t)(n) % RUGHTENA_DIVISOR(w) != 0))
+
+/* The padded n, the words of a frame that the card is fed; 0 where w is 0. Otherwise it is never below n: where a size_t cannot hold it, which
+ * the division shows, it is the largest size_t. */
+#define RUGHTENA_FRAME(n, w)                                                                                                     \
+    ((size_t)(w) == 0 ? (size_t)0                                                                                                \
+     : RUGHTENA_CYCLES(n, w) * (size_t)(w) / RUGHTENA_DIVISOR(w) == RUGHTENA_CYCLES(n, w)                                        \
+         ? RUGHTENA_CYCLES(n, w) * (size_t)(w)                                                                                   \
+         : (size_t)-1)
+
+/* The scratch words that generating needs, 4 times the padded n and 1,024; where a size_t cannot hold that, the largest size_t. (A comparison
+ * in place of the division would make compilers warn where it cannot fail.) */
+#define RUGHTENA_GENERATE_SCRATCH(n, w)                                                                                          \
+    (RUGHTENA_FRAME(n, w) / (((size_t)-1 - 1024) / 4 + 1) == 0 ? 4 * RUGHTENA_FRAME(n, w) + 1024 : (size_t)-1)
+
+/* The scratch words that reading needs, 2n with the set's n; where a size_t cannot hold that, the largest size_t. */
+#define RUGHTENA_READ_SCRATCH(n) ((size_t)(n) / ((size_t)-1 / 2 + 1) == 0 ? 2 * (size_t)(n) : (size_t)-1)
 
 /* The switch values of a network of `width` lines, 1 to 64. For a width that is no power of two: those of the least power of two above it,
  * so that RUGHTENA_SWITCHES(w) is the B of a table set. */
@@ -67,9 +86,6 @@ extern "C" {
               : (size_t)(width) <= 32 ? 129                                                                                      \
                                       : RUGHTENA_MOST_SWITCHES))
 
-/* c, the cycles of a frame; w is not 0. */
-#define RUGHTENA_CYCLES(n, w) ((size_t)(n) / (size_t)(w))
-
 /* a, the bits of an address, for c up to 4,096: as many as there are powers of two below c. */
 #define RUGHTENA_ADDRESS_BITS(c)                                                                                                 \
     ((size_t)(((c) > 1) + ((c) > 2) + ((c) > 4) + ((c) > 8) + ((c) > 16) + ((c) > 32) + ((c) > 64) + ((c) > 128) + ((c) > 256) + \
@@ -79,11 +95,13 @@ extern "C" {
 #define RUGHTENA_CYCLE_BITS(n, w)                                                                                                \
     (2 * (size_t)(w) * RUGHTENA_ADDRESS_BITS(RUGHTENA_CYCLES(n, w)) + RUGHTENA_SWITCHES(w))
 
-/* Whether n and w keep the limits and w divides n. Taking off 1 makes the largest number of 0, so that one comparison tests both ends. */
+/* Whether generating refuses n and w by none of 1, 2 and 3. The padded n is 0 where n or w is 0, and above 4,096 where n is. Taking off 1
+ * makes the largest number of 0, so that one comparison tests both ends. */
 #define RUGHTENA_HAS_SET(n, w)                                                                                                   \
-    ((size_t)(n) - 1 < RUGHTENA_MOST_WORDS && (size_t)(w) - 1 < RUGHTENA_MOST_WIDTH && (size_t)(n) % (size_t)(w) == 0)
+    (RUGHTENA_FRAME(n, w) - 1 < RUGHTENA_MOST_WORDS && (size_t)(w) - 1 < RUGHTENA_MOST_WIDTH)
 
-/* The bytes of a table set of n words and width w, 3 + ceil(c(2wa + B) / 8); 0 where no set has this n and w. */
+/* The bytes of the set that generating makes for n and w, a set of the padded n: 3 + ceil(c(2wa + B) / 8); 0 where generating refuses n and w
+ * by 1, 2 or 3. */
 #define RUGHTENA_SET_LENGTH(n, w)                                                                                                \
     (RUGHTENA_HAS_SET(n, w) ? 3 + (RUGHTENA_CYCLES(n, w) * RUGHTENA_CYCLE_BITS(n, w) + 7) / 8 : (size_t)0)
 
@@ -92,7 +110,7 @@ enum rughtena_refusal {
     RUGHTENA_ACCEPTED = 0,       /* no refusal */
     RUGHTENA_FRAME_SIZE = 1,     /* n is 0 or above 4,096 */
     RUGHTENA_WIDTH = 2,          /* the width is 0 or above 64; for the network alone, no power of two up to 64 */
-    RUGHTENA_UNEVEN = 3,         /* w does not divide n */
+    RUGHTENA_PADDED_SIZE = 3,    /* the padded n is above 4,096 */
     RUGHTENA_OUT_OF_RANGE = 4,   /* image i is n or more; place i. A followed line is the width or more; place the line */
     RUGHTENA_REPEATED = 5,       /* image i was already an earlier one; place i */
     RUGHTENA_FILE_SHORT = 6,     /* the file is shorter than its header, or than its header says */
@@ -113,7 +131,7 @@ enum rughtena_refusal {
         (number) == RUGHTENA_ACCEPTED        ? "accepted"                                                                        \
         : (number) == RUGHTENA_FRAME_SIZE    ? "a frame has 1 to 4096 words"                                                     \
         : (number) == RUGHTENA_WIDTH         ? "the width is 1 to 64, and a power of two for the network alone"                  \
-        : (number) == RUGHTENA_UNEVEN        ? "the width does not divide the number of words"                                   \
+        : (number) == RUGHTENA_PADDED_SIZE   ? "the frame, extended to a multiple of the width, has more than 4096 words"        \
         : (number) == RUGHTENA_OUT_OF_RANGE  ? "an image is not below the number of elements, or a line not below the width"     \
         : (number) == RUGHTENA_REPEATED      ? "an image is that of an earlier element"                                          \
         : (number) == RUGHTENA_FILE_SHORT    ? "the file is shorter than its table set"                                          \
@@ -149,15 +167,17 @@ typedef struct {
     size_t fill;
 } rughtena_clock;
 
-/* Generates a table set for the permutation of n words that the first n images give.
- * Lent: n images, read; RUGHTENA_SET_LENGTH(n, w) bytes for the file, written; 4n + 1,024 scratch words, of which the first n are written.
- * Gives that length; bytes behind it stay. For every permutation a set is generated.
- * Refuses 1, 2, 3, 12, then 4 and 5 by rising i. */
+/* Generates a table set for the permutation of n words that the first n images give. The set and the frames that the card is fed with it
+ * have RUGHTENA_FRAME(n, w) words; those from n on leave at their own places.
+ * Lent: n images, read; RUGHTENA_SET_LENGTH(n, w) bytes for the file, written; RUGHTENA_GENERATE_SCRATCH(n, w) scratch words, of which the
+ * first RUGHTENA_FRAME(n, w) are written.
+ * Gives the length of the set; bytes behind it stay, and images behind the first n are not read. For every permutation a set is generated.
+ * Refuses 1, 2, 3, 12, then 4 and 5 by rising i. For 4 an image is held to the n given, not to the padded n. */
 rughtena_answer rughtena_generate(size_t n, size_t w, const uint16_t *images, size_t images_len, uint8_t *file,
                                   size_t file_len, uint16_t *scratch, size_t scratch_len);
 
 /* Reads a table set; file_len is exactly its length.
- * Lent: n images, written if the set is accepted; 2n scratch words, which are not written.
+ * Lent: n images, written if the set is accepted; 2n scratch words, which are not written. n is the set's, so the padded one.
  * Refuses 6, 7, 6, 8, 12, then line by line 9, 10, 11. */
 rughtena_read_answer rughtena_read(const uint8_t *file, size_t file_len, uint16_t *images, size_t images_len,
                                    const uint16_t *scratch, size_t scratch_len);
@@ -174,7 +194,8 @@ rughtena_answer rughtena_follow(size_t width, const uint8_t *values, size_t valu
 
 /* One step of the cycle machine on a table set; file_len is exactly its length.
  * Lent: the clock, written; two memories of 2n words, written; exactly w entering words, read; w output words, written once the card is
- * full. Later words of all three stay. The memories may hold anything before the first step and belong to the card from then on.
+ * full. n is the set's, so the padded one. Words behind these stay in the memories and in the output. The memories may hold anything before
+ * the first step and belong to the card from then on.
  * Gives 1 if w words were written, and 0 while the card fills.
  * Refuses 6, 7, 6, 8, 12, 13, 14 and, with fill 1 or more, 9, 10 and 11 for the line of this cycle (addresses out of range only:
  * repeated ones are found by rughtena_read). */

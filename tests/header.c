@@ -1,5 +1,6 @@
-/* What include/rughtena.h defines, held to what the library answers: the lengths of sets, the switch values of networks, the numbers of
- * refusals and their texts. It keeps to C89 and to C++98, since tests/header compiles it under every standard from there on. */
+/* What include/rughtena.h defines, held to what the library answers: padded numbers of words, the lengths of sets, the switch values of
+ * networks, the numbers of refusals and their texts. It keeps to C89 and to C++98, since tests/header compiles it under every standard from
+ * there on. */
 #include <rughtena.h>
 #include <stdio.h>
 #include <string.h>
@@ -15,19 +16,38 @@ HOLDS(no_set_of_no_words, RUGHTENA_SET_LENGTH(0, 1) == 0);
 HOLDS(no_set_of_too_many_words, RUGHTENA_SET_LENGTH(RUGHTENA_MOST_WORDS + 1, 1) == 0);
 HOLDS(no_set_of_width_0, RUGHTENA_SET_LENGTH(12, 0) == 0);
 HOLDS(no_set_of_width_65, RUGHTENA_SET_LENGTH(130, 65) == 0);
-HOLDS(no_set_of_an_uneven_width, RUGHTENA_SET_LENGTH(10, 3) == 0);
+HOLDS(set_of_ten, RUGHTENA_SET_LENGTH(10, 3) == 12);
+HOLDS(widest_set_of_one, RUGHTENA_SET_LENGTH(1, RUGHTENA_MOST_WIDTH) == 44);
+HOLDS(no_set_of_too_many_padded_words, RUGHTENA_SET_LENGTH(RUGHTENA_MOST_WORDS, 3) == 0);
+HOLDS(no_set_of_the_most_words_there_are, RUGHTENA_SET_LENGTH((size_t)-1, 2) == 0);
+HOLDS(padded_ten, RUGHTENA_FRAME(10, 3) == 12);
+HOLDS(padded_twelve, RUGHTENA_FRAME(12, 3) == 12);
+HOLDS(padded_one, RUGHTENA_FRAME(1, RUGHTENA_MOST_WIDTH) == 64);
+HOLDS(padded_none, RUGHTENA_FRAME(0, 3) == 0);
+HOLDS(padded_to_no_width, RUGHTENA_FRAME(12, 0) == 0);
+HOLDS(padded_to_the_largest, RUGHTENA_FRAME((size_t)-2, 2) == (size_t)-2);
+HOLDS(padded_beyond_the_largest, RUGHTENA_FRAME((size_t)-1, 2) == (size_t)-1);
+HOLDS(scratch_of_ten, RUGHTENA_GENERATE_SCRATCH(10, 3) == 4 * 12 + 1024);
+HOLDS(scratch_of_none, RUGHTENA_GENERATE_SCRATCH(0, 3) == 1024 && RUGHTENA_GENERATE_SCRATCH(12, 0) == 1024);
+HOLDS(scratch_beyond_the_largest, RUGHTENA_GENERATE_SCRATCH((size_t)-1, 2) == (size_t)-1);
+HOLDS(most_scratch, RUGHTENA_GENERATE_SCRATCH(((size_t)-1 - 1024) / 4, 1) == (size_t)-4);
+HOLDS(scratch_just_beyond, RUGHTENA_GENERATE_SCRATCH(((size_t)-1 - 1024) / 4 + 1, 1) == (size_t)-1);
+HOLDS(most_read_scratch, RUGHTENA_READ_SCRATCH((size_t)-1 / 2) == (size_t)-2);
+HOLDS(read_scratch_just_beyond, RUGHTENA_READ_SCRATCH((size_t)-1 / 2 + 1) == (size_t)-1);
 HOLDS(most_switches, RUGHTENA_SWITCHES(RUGHTENA_MOST_WIDTH) == RUGHTENA_MOST_SWITCHES);
 HOLDS(lengths_are_sizes, sizeof(RUGHTENA_SET_LENGTH(12, 3)) == sizeof(size_t) && sizeof(RUGHTENA_SWITCHES(3)) == sizeof(size_t));
+HOLDS(padded_are_sizes, sizeof(RUGHTENA_FRAME(10, 3)) == sizeof(size_t) && sizeof(RUGHTENA_GENERATE_SCRATCH(10, 3)) == sizeof(size_t));
+HOLDS(read_scratch_is_a_size, sizeof(RUGHTENA_READ_SCRATCH(12)) == sizeof(size_t));
 HOLDS(version_number, RUGHTENA_VERSION == RUGHTENA_VERSION_MAJOR * 10000 + RUGHTENA_VERSION_MINOR * 100 + RUGHTENA_VERSION_PATCH);
 HOLDS(accepted_is_0, RUGHTENA_ACCEPTED == 0);
 HOLDS(last_number, RUGHTENA_SWITCH_VALUE == 15);
 
-#if RUGHTENA_VERSION < 200
-#error "RUGHTENA_VERSION is no number of the preprocessor, or below 0.2.0"
+#if RUGHTENA_VERSION < 300
+#error "RUGHTENA_VERSION is no number of the preprocessor, or below 0.3.0"
 #endif
 
 static uint16_t images[RUGHTENA_MOST_WORDS], read_images[RUGHTENA_MOST_WORDS];
-static uint16_t scratch[RUGHTENA_GENERATE_SCRATCH(RUGHTENA_MOST_WORDS)];
+static uint16_t scratch[RUGHTENA_GENERATE_SCRATCH(RUGHTENA_MOST_WORDS, 1)];
 static uint8_t file[RUGHTENA_SET_LENGTH(RUGHTENA_MOST_WORDS, 1)], values[RUGHTENA_SWITCHES(RUGHTENA_MOST_WIDTH)];
 static int failures;
 
@@ -39,32 +59,65 @@ static void same(const char *what, size_t first, size_t second, size_t expected,
     }
 }
 
-/* A file of the macro's length is enough, a byte less is refused, and the library answers with that length. */
+/* File and scratch of the macros' sizes are enough, an element less of either is refused, and the library answers with the macro's length.
+ * The set that is read back has the padded words. */
 static void length_of(size_t n, size_t w) {
-    const size_t length = RUGHTENA_SET_LENGTH(n, w), room = RUGHTENA_GENERATE_SCRATCH(n);
-    rughtena_answer made = rughtena_generate(n, w, images, n, file, length, scratch, room);
+    const size_t length = RUGHTENA_SET_LENGTH(n, w), room = RUGHTENA_GENERATE_SCRATCH(n, w);
+    rughtena_answer made = rughtena_generate(n, w, images, n, file, length - 1, scratch, room);
+    same("number with a byte less", n, w, RUGHTENA_BUFFER_SHORT, made.number);
+    made = rughtena_generate(n, w, images, n, file, length, scratch, room - 1);
+    same("number with a scratch word less", n, w, RUGHTENA_BUFFER_SHORT, made.number);
+    made = rughtena_generate(n, w, images, n, file, length, scratch, room);
     same("number of the set", n, w, RUGHTENA_ACCEPTED, made.number);
     same("length of the set", n, w, length, made.value);
-    made = rughtena_generate(n, w, images, n, file, length - 1, scratch, room);
-    same("number with a byte less", n, w, RUGHTENA_BUFFER_SHORT, made.number);
+    same("words of the set", n, w, RUGHTENA_FRAME(n, w),
+         rughtena_read(file, length, read_images, RUGHTENA_MOST_WORDS, scratch, RUGHTENA_READ_SCRATCH(RUGHTENA_MOST_WORDS)).words);
 }
 
 /* Arguments of types in which the larger limits cannot be written; a compiler warns where a comparison cannot fail. */
-static size_t narrow(uint16_t n, uint8_t w) { return RUGHTENA_SET_LENGTH(n, w) + RUGHTENA_SWITCHES(w); }
+static size_t narrow(uint16_t n, uint8_t w) {
+    return RUGHTENA_FRAME(n, w) + RUGHTENA_GENERATE_SCRATCH(n, w) + RUGHTENA_READ_SCRATCH(n) + RUGHTENA_SET_LENGTH(n, w) +
+           RUGHTENA_SWITCHES(w);
+}
 
-/* Every width, and numbers of cycles on both sides of each power of two. */
+/* The same with constant widths, of which a compiler knows more. */
+static size_t narrow_words(uint16_t n) {
+    return RUGHTENA_FRAME(n, 1) + RUGHTENA_FRAME(n, 3) + RUGHTENA_GENERATE_SCRATCH(n, 3) + RUGHTENA_SET_LENGTH(n, 3) +
+           RUGHTENA_SET_LENGTH(n, 0);
+}
+
+/* Every width, numbers of cycles on both sides of each power of two, and as many words, or some that do not fill the last cycle. */
 static void lengths(void) {
     size_t w, power, c;
     for (w = 1; w <= RUGHTENA_MOST_WIDTH; w++) {
         for (power = 1; power * w <= RUGHTENA_MOST_WORDS; power *= 2) {
             for (c = power > 1 ? power - 1 : 1; c <= power + 1 && c * w <= RUGHTENA_MOST_WORDS; c++) {
                 length_of(c * w, w);
+                length_of(c * w - w / 2, w);
+                length_of(c * w - (w - 1), w);
             }
         }
         length_of(RUGHTENA_MOST_WORDS / w * w, w);
     }
-    same("length and switches", 12, 3, 12 + 5, narrow(12, 3));
+    same("padded, both scratches, length and switches", 10, 3, 12 + 1072 + 20 + 12 + 5, narrow(10, 3));
+    same("two padded, scratch and two lengths", 10, 3, 10 + 12 + 1072 + 12 + 0, narrow_words(10));
     same("scratch of reading", 12, 3, 24, RUGHTENA_READ_SCRATCH(12));
+}
+
+/* Which n the macro has no set for and the library refuses, around the most words: the same. */
+static void limits(void) {
+    size_t n, w;
+    for (n = RUGHTENA_MOST_WORDS - RUGHTENA_MOST_WIDTH; n <= RUGHTENA_MOST_WORDS + 1; n++) {
+        for (w = 0; w <= RUGHTENA_MOST_WIDTH + 1; w++) {
+            const size_t number = rughtena_generate(n, w, images, 0, file, 0, scratch, 0).number;
+            const size_t expected = n > RUGHTENA_MOST_WORDS                       ? RUGHTENA_FRAME_SIZE
+                                    : w == 0 || w > RUGHTENA_MOST_WIDTH           ? RUGHTENA_WIDTH
+                                    : RUGHTENA_FRAME(n, w) > RUGHTENA_MOST_WORDS ? RUGHTENA_PADDED_SIZE
+                                                                                  : RUGHTENA_BUFFER_SHORT;
+            same("number at the limits", n, w, expected, number);
+            same("whether there is a set", n, w, number == RUGHTENA_BUFFER_SHORT, RUGHTENA_SET_LENGTH(n, w) != 0);
+        }
+    }
 }
 
 /* Setting a network answers with its number of values; a set has the network of the next power of two. */
@@ -80,12 +133,12 @@ static void switches(void) {
 
 /* Which number a call answers for each fault that it can be given here. */
 static void numbers_of_sets(void) {
-    const size_t room = RUGHTENA_GENERATE_SCRATCH(12);
+    const size_t room = RUGHTENA_GENERATE_SCRATCH(12, 3);
     const uint16_t repeated[2] = {0, 0}, outside[2] = {2, 0};
     const size_t length = RUGHTENA_SET_LENGTH(12, 3);
     same("frame size", 0, 1, RUGHTENA_FRAME_SIZE, rughtena_generate(0, 1, images, 0, file, 3, scratch, room).number);
     same("width", 12, 0, RUGHTENA_WIDTH, rughtena_generate(12, 0, images, 12, file, 3, scratch, room).number);
-    same("uneven", 10, 3, RUGHTENA_UNEVEN, rughtena_generate(10, 3, images, 10, file, 3, scratch, room).number);
+    same("padded size", 4096, 3, RUGHTENA_PADDED_SIZE, rughtena_generate(4096, 3, images, 4096, file, 3, scratch, room).number);
     same("out of range", 2, 1, RUGHTENA_OUT_OF_RANGE, rughtena_generate(2, 1, outside, 2, file, 9, scratch, 1032).number);
     same("repeated", 2, 1, RUGHTENA_REPEATED, rughtena_generate(2, 1, repeated, 2, file, 9, scratch, 1032).number);
     rughtena_generate(12, 3, images, 12, file, sizeof file, scratch, room);
@@ -147,6 +200,7 @@ int main(void) {
         images[i] = (uint16_t)i;
     }
     lengths();
+    limits();
     switches();
     numbers_of_sets();
     numbers_of_lines();

@@ -12,7 +12,7 @@
 enum { N = RUGHTENA_MOST_WORDS, W = RUGHTENA_MOST_WIDTH, STACK = 1 << 20, PATTERN = 0xa5 };
 
 static size_t width;
-static uint16_t images[N], read_images[N], scratch[RUGHTENA_GENERATE_SCRATCH(N)], first[2 * N], second[2 * N], words[W], out[W];
+static uint16_t images[N], read_images[N], scratch[RUGHTENA_GENERATE_SCRATCH(N, 1)], first[2 * N], second[2 * N], words[W], out[W];
 static uint8_t file[RUGHTENA_LONGEST_SET], values[RUGHTENA_MOST_SWITCHES];
 static size_t length;
 

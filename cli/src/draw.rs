@@ -52,7 +52,7 @@ mod tests {
     fn drawn(n: usize, w: usize, cycle: usize, bank: Option<usize>) -> String {
         let images: Vec<u16> = (0..n as u16).rev().collect();
         let mut file = vec![0; LONGEST_SET];
-        let mut scratch = vec![0; generate_scratch(n)];
+        let mut scratch = vec![0; generate_scratch(n, w)];
         let length = generate(n, w, &images, &mut file, &mut scratch).unwrap();
         let svg = draw(&file[..length], cycle, bank).unwrap();
         String::from_utf8(svg).unwrap()
@@ -79,6 +79,16 @@ mod tests {
         assert_eq!(count(&svg, "<title>"), 5);
     }
 
+    /// The words by which an order is extended are drawn like the others: each once as it enters and once as it leaves.
+    #[test]
+    fn an_extended_order() {
+        let svg = drawn(10, 3, 0, None);
+        assert!(svg.contains("<title>12 words, width 3, 4 cycles</title>"));
+        assert_eq!(count(&svg, ">10</text>"), 2);
+        assert_eq!(count(&svg, ">11</text>"), 2);
+        assert_eq!(count(&svg, ">12</text>"), 0);
+    }
+
     #[test]
     fn no_network_of_one_line() {
         let svg = drawn(16, 1, 5, None);
@@ -100,7 +110,7 @@ mod tests {
     fn what_is_not_there_is_refused() {
         let images = [0, 1];
         let mut file = [0; 16];
-        let mut scratch = vec![0; generate_scratch(2)];
+        let mut scratch = vec![0; generate_scratch(2, 2)];
         let length = generate(2, 2, &images, &mut file, &mut scratch).unwrap();
         let set = &file[..length];
         assert_eq!(

@@ -3,15 +3,16 @@ use crate::files::SET_ROOM;
 use crate::generate::Order;
 use crate::set::{header, Line, Shape, HEADER};
 use crate::text::Number;
-use rughtena::{set_length, Refusal, MOST_WIDTH, MOST_WORDS};
+use rughtena::{frame, set_length, Refusal, MOST_WIDTH, MOST_WORDS};
 
 /// What `generate` refuses.
 pub fn order_refused(refusal: Refusal, order: &Order) -> String {
     let (n, w) = (order.images.len(), order.width);
     let said = match refusal.number {
+        3 => overlong(n, w),
         4 => beyond(order, refusal.place),
         5 => repeated(order, refusal.place),
-        _ => unfit(n, w).unwrap_or_else(|| other(refusal)),
+        _ => outside_limits(n, w).unwrap_or_else(|| other(refusal)),
     };
     numbered(said, refusal)
 }
@@ -68,18 +69,24 @@ fn bytes(file: &[u8]) -> String {
     }
 }
 
-/// Why no frame has n words at width w, if none has.
-fn unfit(n: usize, w: usize) -> Option<String> {
-    let said = if n == 0 || n > MOST_WORDS {
-        format!("{}: a frame has 1 to {MOST_WORDS}", words(n))
+/// Which limit n or w breaks, if one does.
+fn outside_limits(n: usize, w: usize) -> Option<String> {
+    if n == 0 || n > MOST_WORDS {
+        Some(format!("{}: a frame has 1 to {MOST_WORDS}", words(n)))
     } else if w == 0 || w > MOST_WIDTH {
-        format!("width {w}: a width is 1 to {MOST_WIDTH}")
-    } else if n / w * w != n {
-        format!("{}, width {w}: the width does not divide", words(n))
+        Some(format!("width {w}: a width is 1 to {MOST_WIDTH}"))
     } else {
-        return None;
-    };
-    Some(said)
+        None
+    }
+}
+
+/// An order whose padded n is above the limit.
+fn overlong(n: usize, w: usize) -> String {
+    format!(
+        "{}, width {w}: extended to {}, above {MOST_WORDS}",
+        words(n),
+        words(frame(n, w))
+    )
 }
 
 fn beyond(order: &Order, word: usize) -> String {
@@ -114,8 +121,12 @@ fn length(file: &[u8]) -> String {
 
 fn bad_header(file: &[u8]) -> String {
     let (n, w, zero) = header(file);
-    match unfit(n, w) {
+    match outside_limits(n, w) {
         Some(said) => format!("the header has {said}"),
+        None if n % w != 0 => format!(
+            "the header has {}, width {w}: the width does not divide",
+            words(n)
+        ),
         None => format!("the header ends with the bits {zero:04b}, which are to be zero"),
     }
 }

@@ -1,8 +1,9 @@
 //! Table sets for a streaming reorder card. The card takes frames of n words, w words in each cycle, and gives each frame out in another
 //! fixed order without a pause: word i leaves at place `images[i]`. A table set, a small bit-packed file, tells the card what its memories
-//! and its permutation network do in each of the c = n / w cycles of a frame.
+//! and its permutation network do in each of the c cycles of a frame.
 //!
-//! n is 1 to [`MOST_WORDS`], w is 1 to [`MOST_WIDTH`], and w divides n.
+//! n is 1 to [`MOST_WORDS`], w is 1 to [`MOST_WIDTH`]. A frame takes whole cycles, so w divides the n of a set. The n of an order may be any:
+//! [`generate`] makes a set of the padded n, [`frame(n, w)`](frame), in which each word from n on keeps its place.
 //!
 //! The calls are those of librughtena.a, which is proved to meet its contracts for all arguments. So no call panics, and none has a
 //! condition on what it is given: it ends with its result or with a [`Refusal`]. All memory is lent by the caller, the crate allocates
@@ -17,7 +18,7 @@
 //! # fn main() -> Result<(), Refusal> {
 //! let order = [3, 7, 1, 2, 6, 0, 11, 9, 4, 10, 8, 5];
 //! let mut file = [0; set_length(12, 3)];
-//! generate(12, 3, &order, &mut file, &mut [0; generate_scratch(12)])?;
+//! generate(12, 3, &order, &mut file, &mut [0; generate_scratch(12, 3)])?;
 //!
 //! let mut images = [0; 12];
 //! assert_eq!(read(&file, &mut images, &[0; read_scratch(12)])?, (12, 3));
@@ -34,8 +35,8 @@ mod sizes;
 
 pub use refusal::Refusal;
 pub use sizes::{
-    generate_scratch, read_scratch, set_length, switches, LONGEST_SET, MOST_SWITCHES, MOST_WIDTH,
-    MOST_WORDS,
+    frame, generate_scratch, read_scratch, set_length, switches, LONGEST_SET, MOST_SWITCHES,
+    MOST_WIDTH, MOST_WORDS,
 };
 
 /// What an accepted step says.
@@ -81,22 +82,24 @@ pub fn version() -> usize {
     raw::version()
 }
 
-/// Generates a table set for frames of `n` words and width `w` in which word i leaves at place `images[i]`, and gives its length in bytes,
+/// Generates a table set for the order of `n` words in which word i leaves at place `images[i]`, at width `w`, and gives its length in bytes,
 /// [`set_length(n, w)`](set_length). For every permutation there is one.
 ///
-/// Needed are `n` images, that many bytes of `file` and [`generate_scratch(n)`](generate_scratch) words of `scratch`. Bytes behind the set
-/// and images behind the first `n` do not matter and stay. The first `n` scratch words may hold anything afterwards.
+/// The set and the frames that the card is fed with it have [`frame(n, w)`](frame) words; those from `n` on leave at their own places.
+///
+/// Needed are `n` images, that many bytes of `file` and [`generate_scratch(n, w)`](generate_scratch) words of `scratch`. Bytes behind the set
+/// and images behind the first `n` do not matter and stay. The first [`frame(n, w)`](frame) scratch words may hold anything afterwards.
 ///
 /// # Errors
 ///
-/// In this order: [`FRAME_SIZE`](Refusal::FRAME_SIZE), [`WIDTH`](Refusal::WIDTH), [`UNEVEN`](Refusal::UNEVEN),
-/// [`BUFFER_SHORT`](Refusal::BUFFER_SHORT); then the first image that is [`OUT_OF_RANGE`](Refusal::OUT_OF_RANGE) or
+/// In this order: [`FRAME_SIZE`](Refusal::FRAME_SIZE), [`WIDTH`](Refusal::WIDTH), [`PADDED_SIZE`](Refusal::PADDED_SIZE),
+/// [`BUFFER_SHORT`](Refusal::BUFFER_SHORT); then the first image that is [`OUT_OF_RANGE`](Refusal::OUT_OF_RANGE), which is `n` or more, or
 /// [`REPEATED`](Refusal::REPEATED).
 ///
 /// ```
 /// use rughtena::{generate, generate_scratch, set_length, Refusal};
 ///
-/// let mut scratch = [0; generate_scratch(2)];
+/// let mut scratch = [0; generate_scratch(2, 2)];
 /// let mut file = [0xff; 8];
 /// let length = generate(2, 2, &[1, 0], &mut file, &mut scratch)?;
 /// assert_eq!(length, set_length(2, 2));
@@ -104,6 +107,21 @@ pub fn version() -> usize {
 ///
 /// let refusal = generate(2, 2, &[1, 0], &mut file[..3], &mut scratch).unwrap_err();
 /// assert_eq!(refusal.number, Refusal::BUFFER_SHORT);
+/// # Ok::<(), Refusal>(())
+/// ```
+///
+/// A width that does not divide the number of words:
+///
+/// ```
+/// use rughtena::{frame, generate, generate_scratch, read, read_scratch, set_length, Refusal};
+///
+/// const WORDS: usize = frame(2, 3);
+/// let mut file = [0; set_length(2, 3)];
+/// generate(2, 3, &[1, 0], &mut file, &mut [0; generate_scratch(2, 3)])?;
+///
+/// let mut images = [0; WORDS];
+/// assert_eq!(read(&file, &mut images, &[0; read_scratch(WORDS)])?, (3, 3));
+/// assert_eq!(images, [1, 0, 2]);
 /// # Ok::<(), Refusal>(())
 /// ```
 #[inline]
@@ -117,7 +135,8 @@ pub fn generate(
     raw::generate(n, w, images, file, scratch).value()
 }
 
-/// Reads a table set, and gives n and w. `file` has the bytes of the set and no others. Word i leaves at place `images[i]`.
+/// Reads a table set, and gives its n, a padded one, and w. `file` has the bytes of the set and no others. Word i leaves at place
+/// `images[i]`.
 ///
 /// Needed are n words of `images`, of which the first n are written, and [`read_scratch(n)`](read_scratch) words of `scratch`, which are
 /// not written. A file in the form of a table set is accepted exactly when it performs a permutation.
@@ -191,8 +210,9 @@ pub fn follow(width: usize, values: &[u8], line: usize) -> Result<usize, Refusal
 /// One step of the cycle machine on a table set: w words enter, and once the card holds two frames w words leave. An accepted step moves the
 /// clock on, a refused one leaves it.
 ///
-/// `file` has the bytes of the set and no others, `words` exactly w words. `first` and `second` are the memories, of 2n words each; they
-/// may hold anything before the first step, and belong to the card from then on. `out` has room for w words. Words behind these stay.
+/// `file` has the bytes of the set and no others, `words` exactly w words. `first` and `second` are the memories, of 2n words each, with the
+/// set's n, which [`read`] gives; they may hold anything before the first step, and belong to the card from then on. `out` has room for w
+/// words. Words behind these stay.
 ///
 /// # Errors
 ///

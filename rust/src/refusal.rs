@@ -9,7 +9,7 @@ use core::fmt::{self, Display, Formatter};
 /// ```
 /// use rughtena::{generate, generate_scratch, Refusal};
 ///
-/// let mut scratch = [0; generate_scratch(2)];
+/// let mut scratch = [0; generate_scratch(2, 1)];
 /// let refusal = generate(2, 1, &[0, 0], &mut [0; 9], &mut scratch).unwrap_err();
 /// assert_eq!(refusal, Refusal { number: Refusal::REPEATED, place: 1 });
 /// assert_eq!(refusal.to_string(), "refused 5 at 1: an image is that of an earlier element");
@@ -27,8 +27,8 @@ impl Refusal {
     pub const FRAME_SIZE: usize = 1;
     /// The width is 0 or above [`MOST_WIDTH`](crate::MOST_WIDTH); for the network alone, no power of two up to it.
     pub const WIDTH: usize = 2;
-    /// The width does not divide the number of words.
-    pub const UNEVEN: usize = 3;
+    /// The padded n, [`frame(n, w)`](crate::frame), is above [`MOST_WORDS`](crate::MOST_WORDS).
+    pub const PADDED_SIZE: usize = 3;
     /// An image is not below the number of elements, and the place is the element; or a followed line is not below the width, and the
     /// place is the line.
     pub const OUT_OF_RANGE: usize = 4;
@@ -60,7 +60,9 @@ impl Refusal {
         match self.number {
             Self::FRAME_SIZE => "a frame has 1 to 4096 words",
             Self::WIDTH => "the width is 1 to 64, and a power of two for the network alone",
-            Self::UNEVEN => "the width does not divide the number of words",
+            Self::PADDED_SIZE => {
+                "the frame, extended to a multiple of the width, has more than 4096 words"
+            }
             Self::OUT_OF_RANGE => {
                 "an image is not below the number of elements, or a line not below the width"
             }

@@ -3,7 +3,7 @@
 //! integer by integer, as C gets them.
 use crate::lent::Lent;
 use crate::orders::Random;
-use crate::second;
+use crate::second::{self, Dims};
 use crate::{generate_scratch, Clock, Refusal, Said};
 use rughtena::raw::{self, Answer, ReadAnswer};
 
@@ -62,10 +62,11 @@ pub fn generate(
             Err(refusal)
         }
         Ok(length) => {
+            let written = Dims::padded(n, w).n;
             file.kept_from(length);
-            scratch.kept_from(generate_scratch(n));
+            scratch.kept_from(written);
             other_file.kept_from(length);
-            other_scratch.kept_from(generate_scratch(n));
+            other_scratch.kept_from(written);
             Ok(file.now()[..length].to_vec())
         }
     }
@@ -181,8 +182,8 @@ pub fn step(
 /// A set for a random order, made by the second implementation.
 pub fn set_of(n: usize, w: usize, random: &mut Random) -> Vec<u8> {
     let order = random.order(n);
-    let mut file = vec![0; second::Dims::new(n, w).length];
-    let mut scratch = vec![0; generate_scratch(n)];
+    let mut file = vec![0; Dims::new(n, w).length];
+    let mut scratch = vec![0; generate_scratch(n, w)];
     second::generate(n, w, &order, &mut file, &mut scratch).expect("a permutation is generated");
     file
 }

@@ -80,7 +80,12 @@ pub fn all(n: usize) -> Vec<Vec<u16>> {
     orders
 }
 
-/// The widths of a frame of n words.
+/// The widths that divide a frame of n words.
 pub fn widths(n: usize) -> impl Iterator<Item = usize> {
     (1..=n.min(crate::MOST_WIDTH)).filter(move |w| n % w == 0)
+}
+
+/// All widths at which an order of n words gets a set: some multiple of such a width is n or more, and no more than a frame may have.
+pub fn every_width(n: usize) -> impl Iterator<Item = usize> {
+    (1..=crate::MOST_WIDTH).filter(move |w| (n..=crate::MOST_WORDS).any(|words| words % w == 0))
 }

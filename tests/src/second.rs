@@ -1,5 +1,6 @@
-//! A second implementation of the calls, in safe Rust, written from document 01.
+//! A second implementation of the calls, in safe Rust, written from document 01 and, for widths that do not divide a frame, from document 02.
 use crate::{refuse, Clock, Refusal, Said};
+use std::borrow::Cow;
 
 /// The limits of document 01, written here once more: the second implementation shares nothing with the library.
 const MAX_WORDS: usize = 4096;
@@ -32,7 +33,12 @@ pub fn switch_count(v: usize) -> usize {
 }
 
 impl Dims {
-    /// n and w are in their limits and w divides n.
+    /// Those of the set that generating makes for n words: its n is the padded one, document 02's longer n. w is not 0.
+    pub fn padded(n: usize, w: usize) -> Dims {
+        Dims::new(n.next_multiple_of(w), w)
+    }
+
+    /// Those of a set. w is not 0 and divides n.
     pub fn new(n: usize, w: usize) -> Dims {
         let c = n / w;
         let a = c.next_power_of_two().trailing_zeros() as usize;
@@ -299,6 +305,18 @@ impl<'a> Schedule<'a> {
     }
 }
 
+/// The order that the images give, with fixed points up to the next multiple of w. One that needs none is not copied, so that its set can be
+/// timed.
+pub fn extended(images: &[u16], w: usize) -> Cow<'_, [u16]> {
+    let padded = images.len().next_multiple_of(w);
+    if padded == images.len() {
+        return Cow::Borrowed(images);
+    }
+    let mut order = images.to_vec();
+    order.extend(images.len() as u16..padded as u16);
+    Cow::Owned(order)
+}
+
 pub fn generate(
     n: usize,
     w: usize,
@@ -312,14 +330,15 @@ pub fn generate(
     if w == 0 || w > MAX_WIDTH {
         return refuse(2, 0);
     }
-    if n % w != 0 {
+    let dims = Dims::padded(n, w);
+    if dims.n > MAX_WORDS {
         return refuse(3, 0);
     }
-    let dims = Dims::new(n, w);
-    if images.len() < n || file.len() < dims.length || scratch.len() < 4 * n + 1024 {
+    if images.len() < n || file.len() < dims.length || scratch.len() < 4 * dims.n + 1024 {
         return refuse(12, 0);
     }
     check_images(images, n)?;
+    let order = extended(&images[..n], w);
 
     let mut put = Put {
         bytes: file,
@@ -327,10 +346,10 @@ pub fn generate(
         window: 0,
         held: 0,
     };
-    put.bits(13, n as u16);
+    put.bits(13, dims.n as u16);
     put.bits(7, w as u16);
     put.bits(4, 0);
-    let mut schedule = Schedule::new(n, w, images, &mut scratch[..n]);
+    let mut schedule = Schedule::new(dims.n, w, &order, &mut scratch[..dims.n]);
     let mut bits = [0u8; MAX_SWITCHES];
     let mut image = [0u8; MAX_WIDTH];
     let mut source = [0u8; MAX_WIDTH];
@@ -347,7 +366,7 @@ pub fn generate(
             put.bits(dims.a, (word / w) as u16);
             image[bank] = port;
             source[port as usize] = bank as u8;
-            writes[port as usize] = images[word] / w as u16;
+            writes[port as usize] = order[word] / w as u16;
         }
         set_network(
             &image[..dims.v],

@@ -11,13 +11,15 @@ use Rattle.limits.specs.Limits.{mostWords, textRoom}
 use Rattle.laws.specs.Choice.{ifLt}
 use Rattle.laws.proofs.Choices.{ifLt-no}
 use Rattle.laws.specs.Permutation.{inverse}
-use Rattle.laws.proofs.Permutations.{inverse-below}
+use Rattle.laws.proofs.Permutations.{inverse-below, inverse-ext}
+use Rattle.images.specs.Images.{orderOf}
+use Rattle.images.proofs.Orders.{order-listed}
 use Rattle.refusal.specs.Refusals.{numberOf}
 use Rattle.refusal.specs.declared.Refusal.{Refusal}
 use Rattle.refusal.specs.declared.Refusal.the-variants.{
   FrameSize,
   Width,
-  Uneven,
+  PaddedSize,
   OutOfRange,
   Repeated,
   FileShort,
@@ -89,7 +91,7 @@ leavers-ext w f g (suc k) same =
 pub number-short : (r : Refusal) → numberOf r < 16
 number-short FrameSize = omega arith
 number-short Width = omega arith
-number-short Uneven = omega arith
+number-short PaddedSize = omega arith
 number-short (OutOfRange i) = omega arith
 number-short (Repeated i) = omega arith
 number-short FileShort = omega arith
@@ -127,8 +129,9 @@ set-read file words {r} {contents} L e =
     let q : readOf file (replicate mostWords 0) (replicate (2 * mostWords) 0) ≡ readOutcome (Read contents) after =
     sym (L .1) ∙ ap (λ (z : Reading). readOutcome z after) e in
     let known = read-performs file (replicate mostWords 0) (replicate (2 * mostWords) 0) q in
-    let same : leavers w (inverse n (λ i. getD after i 0)) n ≡ leavers w (λ j. getD words j 0) n =
-    leavers-ext w (inverse n (λ i. getD after i 0)) (λ j. getD words j 0) n (λ j l. sym (L .2 contents e j l)) in
+    let same : leavers w (inverse n (orderOf n after)) n ≡ leavers w (λ j. getD words j 0) n =
+    leavers-ext w (inverse n (orderOf n after)) (λ j. getD words j 0) n
+    (λ j l. inverse-ext n (orderOf n after) (λ i. getD after i 0) j (order-listed n after) ∙ sym (L .2 contents e j l)) in
     record {
       dims = opened-dims file (known .opened) .0;
       below = λ j l. rw (L .2 contents e j l) (inverse-below n (λ i. getD after i 0) (known .performs .permutes) j l);

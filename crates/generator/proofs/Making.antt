@@ -29,7 +29,6 @@ use Rattle.tables.proofs.Written.{Written, written-ext, written-all}
 use Rattle.packing.specs.Packing.{putLine, putFilling}
 use Rattle.packing.specs.inner.Plans.{Planned, Ready}
 use Rattle.packing.proofs.Putting.{header-written, line-written, filling-written}
-use Rattle.images.specs.Images.{orderOf}
 use Rattle.generator.proofs.Taking.{scheduled-schedule}
 use Rattle.generator.specs.inner.Schedule.{Scheduled, Took, addressOf, extended}
 use Rattle.generator.specs.Generating.{Made}
@@ -167,6 +166,5 @@ set-made {n} {w} {p} {before} {reads = reads} t all D P B fits H S L =
     }
 
 -- a set of m words and width v is one of n words and width w, where these are the same numbers
-pub made-at : {m v n w : ℕ} {file file′ : List ℕ} (images : List ℕ) → m ≡ n → v ≡ w → Made m v (orderOf m images) file file′
-    → Made n w (orderOf n images) file file′
-made-at images e f M = rw (e, f) at M
+pub made-at : {m v n w : ℕ} {file file′ : List ℕ} {p : ℕ → ℕ} → m ≡ n → v ≡ w → Made m v p file file′ → Made n w p file file′
+made-at e f M = rw (e, f) at M

@@ -4,14 +4,15 @@ use mathlib.Core.Path.{_≡_}
 use mathlib.Core.List.{List, _++_, [], _∷_}
 use lib.ListN.{length, getD, drop}
 use Rattle.refusal.specs.Replies.{Reply, accepts, refusalReply}
+use Rattle.limits.specs.Limits.{mostWords}
 use Rattle.laws.specs.Choice.{ifLt}
 use Rattle.refusal.specs.declared.Refusal.{Refusal}
-use Rattle.refusal.specs.declared.Refusal.the-variants.{BufferShort}
+use Rattle.refusal.specs.declared.Refusal.the-variants.{BufferShort, PaddedSize}
 use Rattle.images.specs.declared.Checked.{Checked}
 use Rattle.images.specs.declared.Checked.the-variants.{Permutation, Refused}
 use Rattle.images.specs.Images.{checkOf, orderOf}
 use Rattle.laws.specs.Permutation.{Permutes}
-use Rattle.tables.specs.Terms.{Dims, fileLength, limitTest}
+use Rattle.tables.specs.Terms.{Limited, fileLength, limitTest, padded}
 use Rattle.tables.specs.Generated.{Schedule, setOf}
 use Rattle.generator.specs.declared.Extent.{Extent}
 use Rattle.generator.specs.declared.Generation.{Generation}
@@ -25,23 +26,26 @@ scratchNeed n = 4 * n + 1024
 abbrev pub extentOf : ℕ → ℕ → Extent
 extentOf n w = record { length = fileLength n w }
 
--- what a set can be generated from: n and w keep their limits, enough memory is lent, and the images are a permutation
+-- what a set can be generated from: n and w keep their limits, the padded n does, enough memory is lent, and the images are a permutation
 pub record Generable (n w : ℕ) (images : List ℕ) (room scratch : ℕ) : Type 0 where
-  pub dims : Dims n w
+  pub limited : Limited n w
+  pub short : padded n w ≤ mostWords
   pub listed : n ≤ length images
-  pub roomy : fileLength n w ≤ room
-  pub spacious : scratchNeed n ≤ scratch
+  pub roomy : fileLength (padded n w) w ≤ room
+  pub spacious : scratchNeed (padded n w) ≤ scratch
   pub permutes : Permutes n (orderOf n images)
 
--- "12, then 4 and 5 by rising i", with so many bytes for the file and so many scratch words
-unfoldable pub lentTest : ℕ → ℕ → List ℕ → ℕ → ℕ → Checked
-lentTest n w images room scratch =
+-- "12, then 4 and 5 by rising i", with so many bytes for the file and so many scratch words: "memory needs count the longer n", here m, "but
+-- the image list and number 4 keep the n given"
+unfoldable pub lentTest : ℕ → ℕ → ℕ → List ℕ → ℕ → ℕ → Checked
+lentTest n m w images room scratch =
     ifLt (length images) n (Refused BufferShort)
-    (ifLt room (fileLength n w) (Refused BufferShort) (ifLt scratch (scratchNeed n) (Refused BufferShort) (checkOf images n)))
+    (ifLt room (fileLength m w) (Refused BufferShort) (ifLt scratch (scratchNeed m) (Refused BufferShort) (checkOf images n)))
 
--- "1, 2, 3, 12, then 4 and 5 by rising i"
+-- "1, 2, 3, 12, then 4 and 5 by rising i", where 3 is "that the longer n exceeds 4,096"
 unfoldable pub checksOf : ℕ → ℕ → List ℕ → ℕ → ℕ → Checked
-checksOf n w images room scratch = limitTest n w Refused (lentTest n w images room scratch)
+checksOf n w images room scratch =
+    limitTest n w Refused (ifLt mostWords (padded n w) (Refused PaddedSize) (lentTest n (padded n w) w images room scratch))
 
 -- the answer, with the lent file and scratch afterwards
 pub data GenerateOutcome : Type 0 where
@@ -55,8 +59,8 @@ pub record Made (n w : ℕ) (p : ℕ → ℕ) (file file′ : List ℕ) : Type 0
   pub written : file′ ≡ setOf n w p reads ++ drop (fileLength n w) file
 
 -- and so are the needed scratch words. Only the first n of them are used, and all later ones are as they were
-pub record Filled (n w : ℕ) (images file scratch file′ scratch′ : List ℕ) : Type 0 where
-  pub made : Made n w (orderOf n images) file file′
+pub record Filled (n w : ℕ) (p : ℕ → ℕ) (file scratch file′ scratch′ : List ℕ) : Type 0 where
+  pub made : Made n w p file file′
   pub scratch-long : length scratch′ ≡ length scratch
   pub scratch-kept : (i : ℕ) → n ≤ i → getD scratch′ i 0 ≡ getD scratch i 0
 
@@ -65,9 +69,9 @@ pub record Generates (n w : ℕ) (images file scratch : List ℕ) (answer : Gene
   -- a refused call alters nothing
   pub refused : (r : Refusal) → checksOf n w images (length file) (length scratch) ≡ Refused r
       → generateOutcome answer file′ scratch′ ≡ generateOutcome (Unmade r) file scratch
-  -- every other call makes a set
+  -- every other call makes a set, of the padded n and for the extended order
   pub generated : checksOf n w images (length file) (length scratch) ≡ Permutation
-      → (answer ≡ Written (extentOf n w)) × Filled n w images file scratch file′ scratch′
+      → (answer ≡ Written (extentOf (padded n w) w)) × Filled (padded n w) w (orderOf n images) file scratch file′ scratch′
 
 -- "generating, the file's length"
 unfoldable pub generationReply : Generation → Reply

@@ -5,7 +5,7 @@ ghost use Prim.Native.Nat.{ℕ, _≤_};
 ghost use lib.ListN.{length};
 ghost use Rattle.laws.specs.Permutation.{Permutes};
 ghost use Rattle.images.specs.Images.{orderOf};
-ghost use Rattle.tables.specs.Terms.{Dims, fileLength};
+ghost use Rattle.tables.specs.Terms.{Limited, Dims, fileLength, padded};
 ghost use Rattle.tables.specs.Format.{Shaped};
 ghost use Rattle.tables.specs.inner.Buffers.{Written};
 ghost use Rattle.generator.specs.inner.Schedule.{Linked, Drawn};
@@ -18,23 +18,40 @@ use crate::scheduling::take_line;
 use images::Checked;
 use limits::MOST_SWITCHES;
 use limits::MOST_WIDTH;
+use limits::MOST_WORDS;
 use matching::FREE;
 use refusal::Refusal;
 use tables::Limits;
 use tables::Shape;
 
-// The tests of the lent memory and of the images, with `room` bytes lent for the file and `scratch` scratch words.
-fn check_lent(n: usize, w: usize, images: &[u16], room: usize, scratch: usize) -> Checked
-    requires { ⌜ Dims n w ⌝ }
-    ensures { λ r. ⌜ r ≡ lentTest n w (now (images .entry)) room scratch ⌝ }
+// The padded n: the words of a frame that is extended up to the next multiple of w.
+fn pad(n: usize, w: usize) -> usize
+    requires { ⌜ Limited n w ⌝ }
+    ensures { λ r. ⌜ r ≡ padded n w ⌝ }
+{
+    (n + (w - 1)) / w * w
+}
+
+// The tests of the lent memory and of the images, for n images and a set of `words` words, with `room` bytes lent for the file and
+// `scratch` scratch words.
+fn check_lent(
+    n: usize,
+    words: usize,
+    w: usize,
+    images: &[u16],
+    room: usize,
+    scratch: usize,
+) -> Checked
+    requires { ⌜ Dims words w × (n ≤ words) ⌝ }
+    ensures { λ r. ⌜ r ≡ lentTest n words w (now (images .entry)) room scratch ⌝ }
 {
     if images.len() < n {
         return Checked::Refused(Refusal::BufferShort);
     }
-    if room < tables::file_length(tables::shape_of(n, w)) {
+    if room < tables::file_length(tables::shape_of(words, w)) {
         return Checked::Refused(Refusal::BufferShort);
     }
-    if scratch < 4 * n + 1024 {
+    if scratch < 4 * words + 1024 {
         return Checked::Refused(Refusal::BufferShort);
     }
     images::check(images, n)
@@ -46,11 +63,17 @@ fn checks(n: usize, w: usize, images: &[u16], room: usize, scratch: usize) -> Ch
 {
     match tables::test_limits(n, w) {
         Limits::Refused(refusal) => Checked::Refused(refusal),
-        Limits::Kept => check_lent(n, w, images, room, scratch),
+        Limits::Kept => {
+            let words = pad(n, w);
+            if MOST_WORDS < words {
+                return Checked::Refused(Refusal::PaddedSize);
+            }
+            check_lent(n, words, w, images, room, scratch)
+        }
     }
 }
 
-// Puts the set of a permutation into the file, line by line. The arrays of a line are made once and lent to each.
+// Puts the set of the order that the images give into the file, line by line. The arrays of a line are made once and lent to each.
 fn put_set(
     images: &[u16],
     next: &[u16],
@@ -59,12 +82,13 @@ fn put_set(
     shape: Shape,
     file: &mut [u8],
 )
-    requires { ⌜ Shaped shape × Permutes (shape .words) (orderOf (shape .words) (now images)) ⌝ }
-    requires { ⌜ (shape .words ≤ length (now images)) × (shape .words ≤ length (now next))
-        × (fileLength (shape .words) (shape .width) ≤ length (now file)) ⌝ }
-    requires { ⌜ ((lent : List ℕ) × Linked (shape .words) (shape .width) (orderOf (shape .words) (now images)) lent (now next) (now heads))
+    requires { ⌜ Shaped shape × Permutes (shape .words) (orderOf (length (now images)) (now images)) ⌝ }
+    requires { ⌜ (shape .words ≤ length (now next)) × (fileLength (shape .words) (shape .width) ≤ length (now file)) ⌝ }
+    requires { ⌜ ((lent : List ℕ)
+        × Linked (shape .words) (shape .width) (orderOf (length (now images)) (now images)) lent (now next) (now heads))
         × Drawn (shape .width) (now heads) (now edges) ⌝ }
-    ensures { λ _. ⌜ Made (shape .words) (shape .width) (orderOf (shape .words) (now (images .entry))) (now (file .entry)) (now (file .exit)) ⌝ }
+    ensures { λ _. ⌜ Made (shape .words) (shape .width) (orderOf (length (now (images .entry))) (now (images .entry)))
+        (now (file .entry)) (now (file .exit)) ⌝ }
 {
     let mut owner = [FREE; MOST_WIDTH];
     let mut words = [0u16; MOST_WIDTH];
@@ -101,12 +125,12 @@ fn put_set(
     packing::end(file, writer, shape);
 }
 
-// Writes the set of a permutation. The first n words of `next` hold the chains of words.
+// Writes the set of n words for the order that the images give. The first n words of `next` hold the chains of words.
 fn make(images: &[u16], n: usize, w: usize, file: &mut [u8], next: &mut [u16]) -> Extent
-    requires { ⌜ Dims n w × (n ≤ length (now images)) × (n ≤ length (now next)) × (fileLength n w ≤ length (now file)) ⌝ }
-    requires { ⌜ Permutes n (orderOf n (now images)) ⌝ }
-    ensures { λ r. ⌜ (r ≡ extentOf n w)
-        × Filled n w (now (images .entry)) (now (file .entry)) (now (next .entry)) (now (file .exit)) (now (next .exit)) ⌝ }
+    requires { ⌜ Dims n w × (n ≤ length (now next)) × (fileLength n w ≤ length (now file)) ⌝ }
+    requires { ⌜ Permutes n (orderOf (length (now images)) (now images)) ⌝ }
+    ensures { λ r. ⌜ (r ≡ extentOf n w) × Filled n w (orderOf (length (now (images .entry))) (now (images .entry)))
+        (now (file .entry)) (now (next .entry)) (now (file .exit)) (now (next .exit)) ⌝ }
 {
     let shape = tables::shape_of(n, w);
     let mut edges = [0u64; MOST_WIDTH];
@@ -128,6 +152,8 @@ pub fn generate(
 {
     match checks(n, w, images, file.len(), scratch.len()) {
         Checked::Refused(refusal) => Generation::Refused(refusal),
-        Checked::Permutation => Generation::Written(make(images, n, w, file, scratch)),
+        Checked::Permutation => {
+            Generation::Written(make(&images[..n], pad(n, w), w, file, scratch))
+        }
     }
 }

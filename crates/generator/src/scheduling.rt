@@ -35,9 +35,10 @@ pub fn chain(
     next: &mut [u16],
     edges: &mut [u64; MOST_WIDTH],
 ) -> [u16; HEADS]
-    requires { ⌜ (Dims n w) × (n ≤ length (now images)) × (n ≤ length (now next)) ⌝ }
+    requires { ⌜ Dims n w × (n ≤ length (now next)) ⌝ }
     requires { ⌜ now edges ≡ replicate mostWidth 0 ⌝ }
-    ensures { λ r. ⌜ Linked n w (orderOf n (now (images .entry))) (now (next .entry)) (now (next .exit)) r × Drawn w r (now (edges .exit)) ⌝ }
+    ensures { λ r. ⌜ Linked n w (orderOf (length (now (images .entry))) (now (images .entry))) (now (next .entry)) (now (next .exit)) r
+        × Drawn w r (now (edges .exit)) ⌝ }
 {
     let mut heads = [NO_WORD; HEADS];
     let mut bank = 0;

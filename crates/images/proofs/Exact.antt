@@ -8,11 +8,14 @@ use native.Mathlib.Decide.{ℕ-discrete, decLt}
 use lib.ListN.{getD}
 use Rattle.laws.specs.Choice.{ifLe, ifEq}
 use Rattle.laws.specs.Permutation.{Permutes}
-use Rattle.laws.proofs.Choices.{ifLe-yes, ifLe-no, ifEq-yes, ifEq-no, zero-not-one}
+use Rattle.laws.proofs.Choices.{ifLe-yes, ifLe-no, ifEq-yes, ifEq-no, ifLe-cases, ifEq-cases, zero-not-one}
+use Rattle.refusal.specs.Refusals.{numberOf}
 use Rattle.refusal.specs.declared.Refusal.{Refusal}
 use Rattle.refusal.specs.declared.Refusal.the-variants.{OutOfRange, Repeated}
+use Rattle.images.specs.declared.Checked.{Checked}
 use Rattle.images.specs.declared.Checked.the-variants.{Permutation, Refused}
 use Rattle.images.specs.Images.{earlier, checkFrom, checkOf, orderOf}
+use Rattle.images.proofs.Orders.{order-permutes, listed-permutes}
 
 -- a refusal is no acceptance
 pub not-refused : (r : Refusal) → Refused r ≡ Permutation → ⊥
@@ -62,9 +65,9 @@ module _ (images : List ℕ) where
         let now = h i (omega arith) (omega arith) in
         sym (ifLe-no n (getD images i 0) _ _ _ (now .0) (ifEq-no _ 1 _ _ _ (now .1) (sym (passes-scan k (i + 1) (λ j l m. h j (omega arith) (omega arith))))))
 
-  pub check-permutes : (n : ℕ) → checkOf images n ≡ Permutation → Permutes n (orderOf n images)
+  check-listed : (n : ℕ) → checkOf images n ≡ Permutation → Permutes n (λ i. getD images i 0)
   unfolding checkOf Passes
-  check-permutes n h = record {
+  check-listed n h = record {
     below = λ i l. scan-passes n n 0 h i (omega arith) (omega arith) .0;
     injective = λ i j l m e. elim (decLt i j) [
       | yes b ↦ absurd (scan-passes n n 0 h j (omega arith) (omega arith) .1 (earlier-met j (getD images j 0) i b e))
@@ -73,9 +76,12 @@ module _ (images : List ℕ) where
     ];
   }
 
-  pub permutes-check : (n : ℕ) → Permutes n (orderOf n images) → checkOf images n ≡ Permutation
+  pub check-permutes : (n : ℕ) → checkOf images n ≡ Permutation → Permutes n (orderOf n images)
+  check-permutes n h = order-permutes n images (check-listed n h)
+
+  listed-check : (n : ℕ) → Permutes n (λ i. getD images i 0) → checkOf images n ≡ Permutation
   unfolding checkOf Passes
-  permutes-check n P = passes-scan n n 0 λ j l m.
+  listed-check n P = passes-scan n n 0 λ j l m.
       let b : j < n = omega arith in (
         P .below j b,
         λ e.
@@ -83,3 +89,22 @@ module _ (images : List ℕ) where
             let q : r .0 ≡ j = P .injective (r .0) j (omega (arith, r .1)) b (r .2) in
             omega (arith, r .1),
       )
+
+  pub permutes-check : (n : ℕ) → Permutes n (orderOf n images) → checkOf images n ≡ Permutation
+  permutes-check n P = listed-check n (listed-permutes n images P)
+
+  -- a refused list is told by 4 or 5
+  Told : Checked → Type 0
+  Told x = (r : Refusal) → x ≡ Refused r → 4 ≤ numberOf r
+
+  scan-told : (n k i : ℕ) → Told (checkFrom images n k i)
+  unfolding checkFrom Told
+  scan-told n zero i = λ r e. absurd (not-refused r (sym e))
+  scan-told n (suc k) i =
+      ifLe-cases Told n (getD images i 0) _ _ (λ _ r e. let same : OutOfRange i ≡ r = cc in rw (← same) (omega arith)) λ _.
+      ifEq-cases Told (earlier images i (getD images i 0)) 1 _ _
+      (λ _ r e. let same : Repeated i ≡ r = cc in rw (← same) (omega arith)) (λ _. scan-told n k (i + 1))
+
+  pub check-told : (n : ℕ) (r : Refusal) → checkOf images n ≡ Refused r → 4 ≤ numberOf r
+  unfolding checkOf Told
+  check-told n = scan-told n n 0

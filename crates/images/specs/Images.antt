@@ -2,14 +2,15 @@
 use Prim.Native.Nat.{ℕ, zero, suc, _+_}
 use mathlib.Core.List.{List}
 use lib.ListN.{getD}
-use Rattle.laws.specs.Choice.{ifLe, ifEq}
+use Rattle.laws.specs.Choice.{ifLt, ifLe, ifEq}
 use Rattle.refusal.specs.declared.Refusal.the-variants.{OutOfRange, Repeated}
 use Rattle.images.specs.declared.Checked.{Checked}
 use Rattle.images.specs.declared.Checked.the-variants.{Permutation, Refused}
 
--- P: "word i of a frame leaves at place P(i)", of n words, where the images list it
-abbrev pub orderOf : ℕ → List ℕ → ℕ → ℕ
-orderOf n images = λ i. getD images i 0
+-- P: "word i of a frame leaves at place P(i)". The images list the places of the first n words; a frame that is longer is extended "with fixed
+-- points", so every later word leaves at its own place
+unfoldable pub orderOf : ℕ → List ℕ → ℕ → ℕ
+orderOf n images i = ifLt i n (getD images i 0) i
 
 -- 1 where x is the image of one of the first i elements, else 0
 unfoldable pub earlier : List ℕ → ℕ → ℕ → ℕ

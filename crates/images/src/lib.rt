@@ -1,4 +1,4 @@
-// The checks of a list of images: refusals 4 and 5, by rising element.
+// A list of images: the order that it gives, and its checks, refusals 4 and 5 by rising element.
 ghost use mathlib.Core.Path.{_≡_};
 ghost use Prim.Native.Nat.{_^_, _<_, _≤_};
 ghost use lib.ListN.{length};
@@ -7,11 +7,13 @@ ghost use Rattle.images.specs.Images.{checkOf, orderOf};
 use limits::MOST_WORDS;
 use refusal::Refusal;
 
-// The image of word i. Only our own crates call it, for a word of the list.
+// The place of word i: its image, or behind the list its own place.
 pub fn image_at(images: &[u16], i: usize) -> usize
-    requires { ⌜ i < length (now images) ⌝ }
-    ensures { λ r. ⌜ (r ≡ orderOf (length (now (images .entry))) (now (images .entry)) i) × (r < 2 ^ 16) ⌝ }
+    ensures { λ r. ⌜ (r ≡ orderOf (length (now (images .entry))) (now (images .entry)) i) × (i < 2 ^ 16 → r < 2 ^ 16) ⌝ }
 {
+    if images.len() <= i {
+        return i;
+    }
     images[i] as usize
 }
 

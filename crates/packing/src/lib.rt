@@ -114,7 +114,7 @@ pub fn plan_line(
     writes: &mut [u16; MOST_WIDTH],
 )
     requires { ⌜ (0 < w) × (w ≤ mostWidth) × (length (now words) ≡ mostWidth) × Injective w (λ k. getD (now words) k 0 % w) ⌝ }
-    requires { ⌜ ((k : ℕ) → k < w → (getD (now words) k 0 < length (now images)) × (getD (now words) k 0 < mostWords)) ⌝ }
+    requires { ⌜ ((k : ℕ) → k < w → getD (now words) k 0 < mostWords) ⌝ }
     requires { ⌜ Blank w (now reads) (now forward) (now back) (now writes) ⌝ }
     ensures { λ _. ⌜ Planned w (orderOf (length (now (images .entry))) (now (images .entry))) (now (words .entry)) w
         (now (reads .exit)) (now (forward .exit)) (now (back .exit)) (now (writes .exit)) ⌝ }

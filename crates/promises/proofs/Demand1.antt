@@ -24,7 +24,7 @@ use Rattle.network.specs.Setting.{setting}
 use Rattle.setting.specs.Calls.{SetOutcome, setOutcome, settledOf, written, settingOf, settingReply}
 use Rattle.passing.specs.Calls.{firstBad, passageOf, followOf, followedReply}
 use Rattle.passing.specs.declared.following.Followed.{Followed}
-use Rattle.tables.specs.Terms.{cycles, fileLength}
+use Rattle.tables.specs.Terms.{cycles, fileLength, padded}
 use Rattle.tables.specs.Header.{headerWords, headerWidth}
 use Rattle.reading.specs.Reading.{ReadOutcome, readOutcome, readOf, readingReply}
 use Rattle.tables.specs.Generated.{setOf as generatedSet}
@@ -86,7 +86,7 @@ module _ (width : ℕ) (images values : List ℕ) where
   SetEnds (setOutcome answer values′) =
       Ends (settingReply answer) (bitCount d ∷ []) (memory values values′ (Only (First (bitCount d))) ∷ [])
 
-  set-written : (x : Checked) → bitCount d ≤ length values → SetEnds (written x d images values)
+  set-written : (x : Checked) → bitCount d ≤ length values → SetEnds (written x width images values)
   unfolding written settledOf settingReply
   set-written (Unfit r) l = turned r (refl, tt)
   set-written Permutation l = accepted refl (only-overwrite (bitCount d) (λ i. getD (setting d (orderOf width images)) i 0) values l, tt)
@@ -136,11 +136,14 @@ module _ (file images scratch : List ℕ) where
 
 module _ (n w : ℕ) (images file scratch : List ℕ) (answer : Generation) (file′ scratch′ : List ℕ)
     (G : Generates n w images file scratch answer file′ scratch′) where
+  abbrev m : ℕ
+  m = padded n w
+
   abbrev generateMemories : List Memory
-  generateMemories = memory file file′ (Only (First (fileLength n w))) ∷ memory scratch scratch′ (Only (First n)) ∷ []
+  generateMemories = memory file file′ (Only (First (fileLength m w))) ∷ memory scratch scratch′ (Only (First m)) ∷ []
 
   generate-told : (x : Checked) → checksOf n w images (length file) (length scratch) ≡ x
-      → Ends (generationReply answer) (fileLength n w ∷ []) generateMemories
+      → Ends (generationReply answer) (fileLength m w ∷ []) generateMemories
   unfolding generationReply
   generate-told (Unfit r) h =
       let e = G .refused r h in
@@ -152,8 +155,8 @@ module _ (n w : ℕ) (images file scratch : List ℕ) (answer : Generation) (fil
       let A = G .generated h in
       let F = A .1 in
       let p : ℕ → ℕ = orderOf n images in
-      let front : Only (First (fileLength n w)) file file′ =
-      rw (F .made .written) (only-replaced (fileLength n w) (generatedSet n w p (F .made .reads)) file (length-setOf n w p (F .made .reads))
+      let front : Only (First (fileLength m w)) file file′ =
+      rw (F .made .written) (only-replaced (fileLength m w) (generatedSet m w p (F .made .reads)) file (length-setOf m w p (F .made .reads))
       (checks-passed n w images (length file) (length scratch) h .roomy)) in
       rw (A .0) (accepted refl (front, (only-front (F .scratch-long) (F .scratch-kept), tt)))
 

@@ -9,7 +9,7 @@ use Rattle.laws.proofs.Choices.{zero-not-one}
 use Rattle.refusal.specs.Refusals.{numberOf, placeOf}
 use Rattle.refusal.specs.Replies.{accepts, refusalReply}
 use Rattle.images.specs.Images.{orderOf}
-use Rattle.tables.specs.Terms.{fileLength}
+use Rattle.tables.specs.Terms.{fileLength, padded}
 use Rattle.tables.specs.Format.{Form}
 use Rattle.tables.specs.Datapath.{Performs}
 use Rattle.reading.specs.Reading.{ReadOutcome, readOutcome, contentsOf, readAs, readOf, readingReply}
@@ -20,7 +20,7 @@ use Rattle.tables.proofs.Performs.{performs-unique}
 use Rattle.reading.proofs.Exact.{read-cases, read-exact, generated-reads}
 use Rattle.generator.specs.Generating.{Generable, Generates}
 use Rattle.generator.specs.declared.Generation.{Generation}
-use Rattle.generator.proofs.Checking.{passed-checks}
+use Rattle.generator.proofs.Checking.{passed-checks, generable-dims, generable-permutes}
 use Rattle.promises.specs.Demand2.{told, toldOf, ReadsAs, Refuses, Lent, Exact, Answered, Reading}
 use Rattle.promises.proofs.Demand3.{front}
 
@@ -64,14 +64,18 @@ module _ (file images scratch : List ℕ) where
 
 module _ (n w : ℕ) (images file scratch : List ℕ) (answer : Generation) (file′ scratch′ : List ℕ)
     (R : Generable n w images (length file) (length scratch)) (G : Generates n w images file scratch answer file′ scratch′) where
-  generated : Form n w (take (fileLength n w) file′)
-      × ((out memory : List ℕ) → Lent out memory n → ReadsAs readOf (take (fileLength n w) file′) out memory n w (orderOf n images))
+  abbrev m : ℕ
+  m = padded n w
+
+  generated : Form m w (take (fileLength m w) file′)
+      × ((out memory : List ℕ) → Lent out memory m → ReadsAs readOf (take (fileLength m w) file′) out memory m w (orderOf n images))
   unfolding toldOf readingReply
   generated =
       let F = G .generated (passed-checks R) .1 in
       rw (front F) (
-        setOf-form (R .dims) (R .permutes) (F .made .schedule),
-        λ out memory lent. ap toldOf (generated-reads out memory (R .dims) (R .permutes) (F .made .schedule) (lent .0) (lent .1)),
+        setOf-form (generable-dims R) (generable-permutes R) (F .made .schedule),
+        λ out memory lent.
+            ap toldOf (generated-reads out memory (generable-dims R) (generable-permutes R) (F .made .schedule) (lent .0) (lent .1)),
       )
 
 pub demand-2 : Reading readOf

@@ -5,10 +5,12 @@ use mathlib.Core.List.{List, [], _∷_, _++_}
 use lib.ListN.{length, take, drop}
 use Rattle.refusal.specs.Replies.{accepts}
 use Rattle.images.specs.Images.{orderOf}
-use Rattle.tables.specs.Terms.{fileLength}
+use Rattle.images.proofs.Orders.{order-listed}
+use Rattle.tables.specs.Terms.{fileLength, padded}
 use Rattle.tables.specs.Generated.{setOf}
 use Rattle.reading.specs.Reading.{readAs, readOf, readingReply}
 use Rattle.tables.proofs.SetBits.{length-setOf}
+use Rattle.tables.proofs.Performs.{performs-ext}
 use Rattle.reading.proofs.Exact.{read-performs, generated-reads}
 use Rattle.machine.specs.Devices.{Feed, run}
 use Rattle.machine.specs.Step.{fresh}
@@ -18,7 +20,7 @@ use Rattle.machine.specs.Plain.{plain, empty}
 use Rattle.machine.proofs.LentClock.{lent-run}
 use Rattle.machine.proofs.Theorem.{machine-is-plain, generated-is-plain}
 use Rattle.generator.specs.Generating.{Filled, generationReply}
-use Rattle.generator.proofs.Checking.{passed-checks}
+use Rattle.generator.proofs.Checking.{passed-checks, generable-dims, generable-permutes}
 use Rattle.rughtena.specs.Answers.{clockOf}
 use Rattle.rughtena.specs.Step.{exportedMachine}
 use Rattle.rughtena.proofs.Device.{Beside, exported-run}
@@ -32,7 +34,8 @@ pub sets-stream : (file images scratch images′ : List ℕ) {n w : ℕ} → rea
     → run (machine file) (record { clock = fresh; first = first; second = second }) steps ≡ run (plain n w (orderOf n images′)) empty steps
 sets-stream file images scratch images′ {n} h =
     let known = read-performs file images scratch h in
-    machine-is-plain file (orderOf n images′) (known .opened) (known .performs)
+    machine-is-plain file (orderOf n images′) (known .opened)
+    (performs-ext (λ i l. sym (order-listed n images′ i l)) (known .performs))
 
 -- the front of two lists
 take-front : (xs ys : List ℕ) → take (length xs) (xs ++ ys) ≡ xs
@@ -40,25 +43,29 @@ take-front [] ys = refl
 take-front (x ∷ xs) ys = ap (λ (r : List ℕ). x ∷ r) (take-front xs ys)
 
 -- as many bytes of the lent file as the set has are the set
-pub front : {n w : ℕ} {images file scratch file′ scratch′ : List ℕ} (F : Filled n w images file scratch file′ scratch′)
-    → take (fileLength n w) file′ ≡ setOf n w (orderOf n images) (F .made .reads)
-front {n} {w} {images} {file} F =
-    let made : List ℕ = setOf n w (orderOf n images) (F .made .reads) in
+pub front : {n w : ℕ} {p : ℕ → ℕ} {file scratch file′ scratch′ : List ℕ} (F : Filled n w p file scratch file′ scratch′)
+    → take (fileLength n w) file′ ≡ setOf n w p (F .made .reads)
+front {n} {w} {p} {file} F =
+    let made : List ℕ = setOf n w p (F .made .reads) in
     let rest : List ℕ = drop (fileLength n w) file in
     ap (take (fileLength n w)) (F .made .written)
-    ∙ subst (λ (z : ℕ). take z (made ++ rest) ≡ made) (length-setOf n w (orderOf n images) (F .made .reads)) (take-front made rest)
+    ∙ subst (λ (z : ℕ). take z (made ++ rest) ≡ made) (length-setOf n w p (F .made .reads)) (take-front made rest)
 
 pub demand-3 : Streaming
 unfolding generationReply toldOf readingReply
 demand-3 n w images file scratch answer file′ scratch′ R G =
     let A = G .generated (passed-checks R) in
     let F = A .1 in
-    let long : length (setOf n w (orderOf n images) (F .made .reads)) ≡ fileLength n w = length-setOf n w (orderOf n images) (F .made .reads) in
+    let m : ℕ = padded n w in
+    let p : ℕ → ℕ = orderOf n images in
+    let D = generable-dims R in
+    let permutes = generable-permutes R in
+    let long : length (setOf m w p (F .made .reads)) ≡ fileLength m w = length-setOf m w p (F .made .reads) in
     rw (front F) (record {
       accepted = ap generationReply (A .0) ∙ ap (λ (k : ℕ). accepts (k ∷ [])) (sym long);
       long = long;
-      reads = λ out memory lent. ap toldOf (generated-reads out memory (R .dims) (R .permutes) (F .made .schedule) (lent .0) (lent .1));
-      streams = generated-is-plain (R .dims) (R .permutes) (F .made .schedule);
+      reads = λ out memory lent. ap toldOf (generated-reads out memory D permutes (F .made .schedule) (lent .0) (lent .1));
+      streams = generated-is-plain D permutes (F .made .schedule);
     })
 
 -- The same of `lentMachine`, which is made of `lentStep`, which the contract of `machine::step_lent` cites: the clock stays lent, and each step
@@ -71,7 +78,8 @@ sets-stream-lent file images scratch images′ h first second long long′ steps
 
 pub demand-3-lent : StreamingLent
 demand-3-lent n w images file scratch answer file′ scratch′ R G first second long long′ steps =
-    lent-run (take (fileLength n w) file′) _ steps ∙ demand-3 n w images file scratch answer file′ scratch′ R G .streams first second long long′ steps
+    lent-run (take (fileLength (padded n w) w) file′) _ steps
+    ∙ demand-3 n w images file scratch answer file′ scratch′ R G .streams first second long long′ steps
 
 -- The same of the device that C drives, from three zero numbers.
 zero-beside : (first second : List ℕ)
@@ -88,5 +96,5 @@ sets-stream-exported file images scratch images′ h first second long long′ s
 
 pub demand-3-exported : StreamingExported
 demand-3-exported n w images file scratch answer file′ scratch′ R G first second long long′ steps =
-    exported-run (take (fileLength n w) file′) _ _ (zero-beside first second) steps
+    exported-run (take (fileLength (padded n w) w) file′) _ _ (zero-beside first second) steps
     ∙ demand-3-lent n w images file scratch answer file′ scratch′ R G first second long long′ steps

@@ -10,7 +10,7 @@ use Rattle.laws.specs.Tabulate.{tabulate, overwrite, joined}
 use Rattle.laws.specs.Permutation.{inverse}
 use Rattle.bits.specs.Bits.{digit, bit, field, digits, numberAt, packed}
 use Rattle.refusal.specs.Replies.{refusalReply}
-use Rattle.images.specs.Images.{earlier, checkFrom, checkOf}
+use Rattle.images.specs.Images.{orderOf, earlier, checkFrom, checkOf}
 use Rattle.images.specs.declared.Checked.{Checked}
 use Rattle.images.specs.declared.Checked.the-variants.{Permutation, Refused as Unfit}
 use Rattle.network.specs.Network.{bitCount, depthOf, leaves}
@@ -18,7 +18,7 @@ use Rattle.network.specs.Setting.{next, rank, least, chosen, setting}
 use Rattle.network.specs.Carried.{carried}
 use Rattle.setting.specs.Calls.{settledOf, written, settingOf, settingReply}
 use Rattle.passing.specs.Calls.{firstBad, passageOf, followOf, followedReply}
-use Rattle.tables.specs.Terms.{limitTest, logFrom, logUp, cycles, addressBits, depth, switchBits, addressRow, lineBits, fileLength}
+use Rattle.tables.specs.Terms.{limitTest, dimsTest, padded, logFrom, logUp, cycles, addressBits, depth, switchBits, addressRow, lineBits, fileLength}
 use Rattle.tables.specs.Header.{headerOf, headerBits, headerWords, headerWidth, headerZeros}
 use Rattle.tables.specs.Format.{lineAt, readAddress, switchBit, writeAddress, filling, shapeOf, headerTest, lengthTest, openOf}
 use Rattle.tables.specs.Datapath.{carriedTo, target, readStrays, carryStrays, writeStrays, imageOf}
@@ -30,12 +30,13 @@ use Rattle.machine.specs.Devices.{run}
 use Rattle.machine.specs.Step.{spot, fresh, nextFrame, nextClock, leaving, moving, entering, advanceOf, saysOf, accepted, bufferTest, clockTest, lineTest, stepLine, stepOpened, stepOf}
 use Rattle.machine.specs.Machine.{said, clockAfter, carded, machine, stepReply}
 use Rattle.machine.specs.Plain.{empty, given, took, turned, plain}
-use Rattle.promises.specs.Examples.{generationOf, answer, examples, ExamplesHold}
+use Rattle.promises.specs.Questions.{generationOf, answer}
+use Rattle.promises.specs.Examples.{examples, ExamplesHold}
 
 pub examples-hold : ExamplesHold
-unfolding ifLt ifLe ifEq any tabulate overwrite joined inverse digit bit field digits numberAt packed refusalReply earlier checkFrom checkOf
+unfolding ifLt ifLe ifEq any tabulate overwrite joined inverse digit bit field digits numberAt packed refusalReply orderOf earlier checkFrom checkOf
     bitCount depthOf leaves next rank least chosen setting carried settledOf written settingOf settingReply firstBad passageOf followOf
-    followedReply limitTest logFrom logUp cycles addressBits depth switchBits addressRow lineBits fileLength headerOf headerBits headerWords
+    followedReply limitTest dimsTest padded logFrom logUp cycles addressBits depth switchBits addressRow lineBits fileLength headerOf headerBits headerWords
     headerWidth headerZeros lineAt readAddress switchBit writeAddress filling shapeOf headerTest lengthTest openOf carriedTo target
     readStrays carryStrays writeStrays wordOf portOf writeOf lineOf setBits setOf readFault writeFault scanLines imageOf readLines
     readOpened readOf readingReply scratchNeed lentTest checksOf generationReply run spot fresh nextFrame nextClock leaving moving entering

@@ -14,11 +14,12 @@ use Rattle.laws.proofs.Tabulates.{getD-overwrite}
 use Rattle.refusal.specs.Replies.{accepts, refuses, refusalReply}
 use Rattle.refusal.specs.declared.Refusal.{Refusal}
 use Rattle.images.specs.Images.{orderOf}
-use Rattle.tables.specs.Terms.{Dims, cycles, fileLength}
+use Rattle.tables.specs.Terms.{Dims, cycles, fileLength, padded}
 use Rattle.tables.specs.Generated.{Schedule, setOf}
 use Rattle.tables.specs.Format.{Form, openOf}
 use Rattle.reading.specs.Reading.{readOf, readingReply}
 use Rattle.tables.specs.declared.Opened.the-variants.{Refused as Unopened}
+use Rattle.tables.proofs.Padded.{padded-above}
 use Rattle.tables.proofs.Cut.{cut-short, cut-long}
 use Rattle.reading.proofs.Exact.{read-unopened}
 use Rattle.tables.proofs.Form.{setOf-form}
@@ -36,27 +37,31 @@ use Rattle.promises.proofs.Demand2.{demand-2}
 -- ---- generators
 
 module _ {n w : ℕ} {images : List ℕ} {answer : Generation} {file′ : List ℕ} (G : Generated n w images answer file′) where
-  abbrev made : List ℕ
-  made = take (fileLength n w) file′
+  abbrev m : ℕ
+  m = padded n w
 
-  replied : generationReply answer ≡ accepts (fileLength n w ∷ [])
+  abbrev made : List ℕ
+  made = take (fileLength m w) file′
+
+  replied : generationReply answer ≡ accepts (fileLength m w ∷ [])
   unfolding generationReply
   replied = ap generationReply (G .generates .generated (passed-checks (G .generable)) .0)
 
   none-turned-down : (number place : ℕ) → generationReply answer ≡ refuses number place → ⊥
   none-turned-down number place e = zero-not-one (cc replied)
 
-  formed : Form n w made
+  formed : Form m w made
   formed = demand-2 .generated n w images (G .file) (G .scratch) answer file′ (G .scratch′) (G .generable) (G .generates) .0
 
-  reads : (out memory : List ℕ) → Lent out memory n → ReadsAs readOf made out memory n w (orderOf n images)
+  reads : (out memory : List ℕ) → Lent out memory m → ReadsAs readOf made out memory m w (orderOf n images)
   reads = demand-2 .generated n w images (G .file) (G .scratch) answer file′ (G .scratch′) (G .generable) (G .generates) .1
 
-  straight-alone : (out memory : List ℕ) → Lent out memory n → ReadsAs readOf made out memory n w (λ i. i)
+  straight-alone : (out memory : List ℕ) → Lent out memory m → ReadsAs readOf made out memory m w (λ i. i)
       → (i : ℕ) → i < n → orderOf n images i ≡ i
   straight-alone out memory lent e i b =
-      let same : overwrite n (orderOf n images) out ≡ overwrite n (λ i. i) out = cc (reads out memory lent) in
-      sym (getD-overwrite n (orderOf n images) out i 0 b) ∙ ap (λ (xs : List ℕ). getD xs i 0) same ∙ getD-overwrite n (λ i. i) out i 0 b
+      let same : overwrite m (orderOf n images) out ≡ overwrite m (λ i. i) out = cc (reads out memory lent) in
+      let c : i < m = omega (arith, padded-above n (G .generable .limited .wide)) in
+      sym (getD-overwrite m (orderOf n images) out i 0 c) ∙ ap (λ (xs : List ℕ). getD xs i 0) same ∙ getD-overwrite m (λ i. i) out i 0 c
 
   -- a file that does not open, as reading tells it
   unopened : (file out memory : List ℕ) (r : Refusal) → openOf file ≡ Unopened r → toldOf (readOf file out memory) ≡ told (refusalReply r) out
@@ -66,7 +71,7 @@ module _ {n w : ℕ} {images : List ℕ} {answer : Generation} {file′ : List �
   length-written : (reported : ℕ) → generationReply answer ≡ accepts (reported ∷ []) → WrittenLength n w images file′ reported
   unfolding refusalReply
   length-written reported e =
-      let same : reported ≡ fileLength n w = cc replied in
+      let same : reported ≡ fileLength m w = cc replied in
       rw same (record {
         formula = refl;
         reads = reads;

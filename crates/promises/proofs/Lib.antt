@@ -4,5 +4,6 @@ pub mod Demand3
 pub mod Idle
 pub mod OneCycle
 pub mod Examples
+pub mod Extended
 pub mod Rule
 pub mod Plain

@@ -39,38 +39,37 @@ use Rattle.tables.specs.Generated.{portOf as wantedPort, Schedule, setOf}
 use Rattle.tables.proofs.Dims.{depth-reaches}
 use Rattle.tables.proofs.SetBits.{switchesOf as packedSwitches, length-switches}
 use Rattle.tables.proofs.ReadsBack.{ports-permute, switchBit-setOf, source-setOf}
-use Rattle.generator.proofs.Checking.{passed-checks}
+use Rattle.generator.proofs.Checking.{passed-checks, generable-dims, generable-permutes}
 use Rattle.promises.specs.Rule.{portOf, switchesOf, LineByRule, GeneratedByRule, ByRule}
 use Rattle.promises.proofs.Demand3.{front}
 
 -- ---- a generated set
 
 -- the set that read lines determine
-set-by-rule : {n w : ℕ} (images : List ℕ) {reads : ℕ → ℕ → ℕ} → Dims n w → Permutes n (orderOf n images) → Schedule n w (orderOf n images) reads
-    → (t : ℕ) → t < cycles n w → LineByRule n w images (setOf n w (orderOf n images) reads) t
+set-by-rule : {n w : ℕ} {p : ℕ → ℕ} {reads : ℕ → ℕ → ℕ} → Dims n w → Permutes n p → Schedule n w p reads
+    → (t : ℕ) → t < cycles n w → LineByRule n w p (setOf n w p reads) t
 unfolding wantedPort
-set-by-rule {n} {w} images {reads} D P S t l =
-    let p : ℕ → ℕ = orderOf n images in
+set-by-rule {n} {w} {p} {reads} D P S t l =
     let made : List ℕ = setOf n w p reads in
     let port : ℕ → ℕ = wantedPort w p reads t in
     let bits : List ℕ = packedSwitches w p reads t in
     let stand : switchesOf n w made t ≡ bits =
     tabulate-ext (switchBits w) (switchBit n w made t) (λ i. getD bits i 0) (switchBit-setOf D P S t l)
     ∙ ap (λ (k : ℕ). tabulate k (λ i. getD bits i 0)) (sym (length-switches n w p reads t)) ∙ sym (tabulate-getD bits 0) in
-    let same : (b : ℕ) → b < w → port b ≡ portOf n w images made t b = λ b m. ap (λ (i : ℕ). p i % w) (sym (source-setOf D P S t l b m)) in
+    let same : (b : ℕ) → b < w → port b ≡ portOf n w p made t b = λ b m. ap (λ (i : ℕ). p i % w) (sym (source-setOf D P S t l b m)) in
     let wanted : Permutes w port = ports-permute D P S t l in
     let lines : Permutes (2 ^ depth w) (carried w port) = carried-permutes w (2 ^ depth w) port (depth-reaches w) wanted in
     record {
-      ports = permutes-ext w port (portOf n w images made t) same wanted;
-      bits = rule-ext (depth w) (carried w port) (carried w (portOf n w images made t)) (switchesOf n w made t)
-          (λ x m. carried-ext w port (portOf n w images made t) same x)
+      ports = permutes-ext w port (portOf n w p made t) same wanted;
+      bits = rule-ext (depth w) (carried w port) (carried w (portOf n w p made t)) (switchesOf n w made t)
+          (λ x m. carried-ext w port (portOf n w p made t) same x)
           (subst (Rule (depth w) (carried w port)) (sym stand) (setting-rule (depth w) (carried w port) lines));
     }
 
 pub generated-by-rule : GeneratedByRule
 generated-by-rule n w images file scratch answer file′ scratch′ R G t l =
     let F = G .generated (passed-checks R) .1 in
-    rw (front F) (set-by-rule images (R .dims) (R .permutes) (F .made .schedule) t l)
+    rw (front F) (set-by-rule (generable-dims R) (generable-permutes R) (F .made .schedule) t l)
 
 -- ---- set, then follow
 
@@ -94,7 +93,7 @@ set-tells width images values values′ settled =
     Tells o = o ≡ setOutcome (Written settled) values′ → Set width images values values′
 
     checked : depthOf width ≤ 6 → bitCount (depthOf width) ≤ length values → (x : Checked) → checkOf images width ≡ x
-        → Tells (written x (depthOf width) images values)
+        → Tells (written x width images values)
     checked few room (Unfit r) h e = absurd (zero-not-one cc)
     checked few room Permutation h e = record { few = few; room = room; permutes = check-permutes images width h; values-are = cc }
 

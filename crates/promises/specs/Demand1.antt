@@ -13,7 +13,7 @@ use Rattle.setting.specs.Calls.{settingOf, setOutcome, settingReply}
 use Rattle.setting.specs.declared.Setting.{Setting}
 use Rattle.passing.specs.Calls.{followOf, followedReply}
 use Rattle.passing.specs.declared.following.Followed.{Followed}
-use Rattle.tables.specs.Terms.{cycles, fileLength}
+use Rattle.tables.specs.Terms.{cycles, fileLength, padded}
 use Rattle.tables.specs.Header.{headerWords, headerWidth}
 use Rattle.tables.specs.Format.{writeAddress}
 use Rattle.reading.specs.Reading.{readOf, readOutcome, readingReply}
@@ -107,11 +107,12 @@ pub record Lending : Type 0 where
   -- reading: n and w; the first n images
   pub read : (file images scratch : List ℕ) (answer : Reading) (images′ : List ℕ) → readOutcome answer images′ ≡ readOf file images scratch
       → Ends (readingReply answer) (headerWords file ∷ headerWidth file ∷ []) (memory images images′ (Only (First (headerWords file))) ∷ [])
-  -- generating: the file's length; as many bytes of the file, and n scratch words, fewer than the 4n + 1,024 that are lent
+  -- generating: the file's length; as many bytes of the file, and as many scratch words as the padded n, fewer than the 4 for each of its words
+  -- and the 1,024 that are lent
   pub generate : (n w : ℕ) (images file scratch : List ℕ) (answer : Generation) (file′ scratch′ : List ℕ)
       → Generates n w images file scratch answer file′ scratch′
-      → Ends (generationReply answer) (fileLength n w ∷ [])
-      (memory file file′ (Only (First (fileLength n w))) ∷ memory scratch scratch′ (Only (First n)) ∷ [])
+      → Ends (generationReply answer) (fileLength (padded n w) w ∷ [])
+      (memory file file′ (Only (First (fileLength (padded n w) w))) ∷ memory scratch scratch′ (Only (First (padded n w))) ∷ [])
   -- a step: whether words were written, and the next clock
   pub step : (file : List ℕ) (clock : Clock) (first second words out : List ℕ) (answer : Stepped) (first′ second′ out′ : List ℕ)
       → stepOutcome answer first′ second′ out′ ≡ stepOf file clock first second words out

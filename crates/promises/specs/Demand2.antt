@@ -9,7 +9,7 @@ use lib.ListN.{length, take}
 use Rattle.laws.specs.Tabulate.{overwrite}
 use Rattle.refusal.specs.Replies.{Reply, accepts, refuses}
 use Rattle.images.specs.Images.{orderOf}
-use Rattle.tables.specs.Terms.{fileLength}
+use Rattle.tables.specs.Terms.{fileLength, padded}
 use Rattle.tables.specs.Format.{Form}
 use Rattle.tables.specs.Datapath.{Performs}
 use Rattle.reading.specs.Reading.{ReadOutcome, readOutcome, readingReply}
@@ -59,8 +59,9 @@ pub record Reading (read : Reader) : Type 0 where
       → Refuses read file images scratch
   -- the datapath performs one permutation at most
   pub only : {n w : ℕ} {file : List ℕ} {p q : ℕ → ℕ} → Performs n w file p → Performs n w file q → (i : ℕ) → i < n → p i ≡ q i
-  -- a generated set, as many bytes as generating reports, is in the form and reads as the permutation
+  -- a generated set, as many bytes as generating reports, is in the form for the padded n and reads as the extended permutation
   pub generated : (n w : ℕ) (images file scratch : List ℕ) (answer : Generation) (file′ scratch′ : List ℕ)
       → Generable n w images (length file) (length scratch) → Generates n w images file scratch answer file′ scratch′
-      → Form n w (take (fileLength n w) file′)
-      × ((out memory : List ℕ) → Lent out memory n → ReadsAs read (take (fileLength n w) file′) out memory n w (orderOf n images))
+      → let m = padded n w in
+      Form m w (take (fileLength m w) file′)
+      × ((out memory : List ℕ) → Lent out memory m → ReadsAs read (take (fileLength m w) file′) out memory m w (orderOf n images))

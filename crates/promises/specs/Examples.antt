@@ -3,120 +3,13 @@
 use Prim.Native.Nat.{ℕ}
 use mathlib.Core.Path.{_≡_}
 use mathlib.Core.List.{List, [], _∷_, _++_, map}
-use lib.ListN.{getD, replicate}
+use lib.ListN.{replicate}
 use Rattle.laws.specs.Tabulate.{tabulate}
-use Rattle.refusal.specs.Replies.{Reply, accepts, refuses}
-use Rattle.images.specs.Images.{orderOf}
-use Rattle.images.specs.declared.Checked.{Checked}
-use Rattle.images.specs.declared.Checked.the-variants.{Permutation, Refused as Unfit}
-use Rattle.setting.specs.Calls.{SetOutcome, setOutcome, settingOf, settingReply}
-use Rattle.passing.specs.Calls.{followOf, followedReply}
-use Rattle.tables.specs.Terms.{cycles, switchBits, fileLength}
-use Rattle.tables.specs.Format.{readAddress, switchBit, writeAddress}
-use Rattle.tables.specs.Generated.{setOf}
-use Rattle.reading.specs.Reading.{ReadOutcome, readOutcome, readOf, readingReply}
-use Rattle.generator.specs.Generating.{extentOf, checksOf, generationReply}
-use Rattle.generator.specs.declared.Generation.{Generation}
-use Rattle.generator.specs.declared.Generation.the-variants.{Written as Made, Refused as Unmade}
-use Rattle.machine.specs.Devices.{Feed, feed, Seen, seen, filling, wrote, refused, run}
-use Rattle.machine.specs.Step.{fresh, StepOutcome, stepOutcome, stepOf}
-use Rattle.machine.specs.Machine.{machine, stepReply}
-use Rattle.machine.specs.Plain.{plain, empty}
+use Rattle.refusal.specs.Replies.{accepts}
+use Rattle.machine.specs.Devices.{Feed, feed, Seen, seen, filling, wrote, refused}
+use Rattle.machine.specs.Step.{fresh}
 use Rattle.machine.specs.declared.Clock.{Clock}
-
--- ---- questions and answers
-
-pub data Question : Type 0 where
-  -- generating for n, w and images, with so many bytes for the file and so many scratch words
-  generating : ℕ → ℕ → List ℕ → ℕ → ℕ → Question
-  -- reading a file, with these images and so many scratch words lent
-  reading : List ℕ → List ℕ → ℕ → Question
-  -- setting a network of this width for images, with these values lent
-  setting : ℕ → List ℕ → List ℕ → Question
-  -- following, through a network of this width with these values, a line
-  following : ℕ → List ℕ → ℕ → Question
-  -- a step on a file at a clock, with the two memories, the entering words and the output memory
-  stepping : List ℕ → Clock → List ℕ → List ℕ → List ℕ → List ℕ → Question
-  -- the cycle machine on a file, from a fresh clock, with two memories of so many zero words, over a list of steps
-  running : List ℕ → ℕ → List Feed → Question
-  -- the plain rule for n, w and images over a list of steps
-  reordering : ℕ → ℕ → List ℕ → List Feed → Question
-  -- the set for n, w and images that these read lines determine. In a frame of one cycle every read address is 0, and none need be listed:
-  -- generating gives this set (`one-cycle`)
-  making : ℕ → ℕ → List ℕ → List (List ℕ) → Question
-  -- the read lines, the switch bits and the write lines that stand in a set of n words and width w
-  readLines : ℕ → ℕ → List ℕ → Question
-  switchLines : ℕ → ℕ → List ℕ → Question
-  writeLines : ℕ → ℕ → List ℕ → Question
-  -- the length of a set of n words and width w
-  measuring : ℕ → ℕ → Question
-
-pub data Answer : Type 0 where
-  -- a call's reply, and afterwards the list that it writes: the images, the values or the output memory (none in generating and following)
-  says : Reply → List ℕ → Answer
-  -- what each step of a list shows
-  shows : List Seen → Answer
-  -- a file, the lines of one, its length
-  bytes : List ℕ → Answer
-  lines : List (List ℕ) → Answer
-  long : ℕ → Answer
-
--- what generating answers once its tests are done: `Generates` says so of the call (`generation-answers`)
-abbrev pub generationOf : Checked → ℕ → ℕ → Generation
-generationOf Permutation n w = Made (extentOf n w)
-generationOf (Unfit r) n w = Unmade r
-
-abbrev pub readSays : ReadOutcome → Answer
-readSays (readOutcome told images) = says (readingReply told) images
-
-abbrev pub setSays : SetOutcome → Answer
-setSays (setOutcome told values) = says (settingReply told) values
-
-abbrev pub stepSays : StepOutcome → Answer
-stepSays (stepOutcome told first second out) = says (stepReply told) out
-
--- the address that bank b reads in line t, 0 where none is listed
-abbrev pub listed : List (List ℕ) → ℕ → ℕ → ℕ
-listed reads t b = getD (getD reads t []) b 0
-
-unfoldable pub answer : Question → Answer
-answer (generating n w images room scratch) = says (generationReply (generationOf (checksOf n w images room scratch) n w)) []
-answer (reading file images scratch) = readSays (readOf file images (replicate scratch 0))
-answer (setting width images values) = setSays (settingOf width images values)
-answer (following width values line) = says (followedReply (followOf width values line)) []
-answer (stepping file clock first second words out) = stepSays (stepOf file clock first second words out)
-answer (running file size steps) =
-    shows (run (machine file) (record { clock = fresh; first = replicate size 0; second = replicate size 0 }) steps)
-answer (reordering n w images steps) = shows (run (plain n w (orderOf n images)) empty steps)
-answer (making n w images reads) = bytes (setOf n w (orderOf n images) (listed reads))
-answer (readLines n w file) = lines (tabulate (cycles n w) (λ t. tabulate w (readAddress n w file t)))
-answer (switchLines n w file) = lines (tabulate (cycles n w) (λ t. tabulate (switchBits w) (switchBit n w file t)))
-answer (writeLines n w file) = lines (tabulate (cycles n w) (λ t. tabulate w (writeAddress n w file t)))
-answer (measuring n w) = long (fileLength n w)
-
-pub record Example : Type 0 where
-  pub question : Question
-  pub reply : Answer
-
-abbrev pub asks : Question → Answer → Example
-asks q a = record { question = q; reply = a }
-
--- a refusal's number and place, of each call; the lent list stays as it was
-abbrev pub generatingRefused : ℕ → ℕ → List ℕ → ℕ → ℕ → ℕ → ℕ → Example
-generatingRefused n w images room scratch number place = asks (generating n w images room scratch) (says (refuses number place) [])
-
-abbrev pub readingRefused : List ℕ → List ℕ → ℕ → ℕ → ℕ → Example
-readingRefused file images scratch number place = asks (reading file images scratch) (says (refuses number place) images)
-
-abbrev pub settingRefused : ℕ → List ℕ → List ℕ → ℕ → ℕ → Example
-settingRefused width images values number place = asks (setting width images values) (says (refuses number place) values)
-
-abbrev pub followingRefused : ℕ → List ℕ → ℕ → ℕ → ℕ → Example
-followingRefused width values line number place = asks (following width values line) (says (refuses number place) [])
-
-abbrev pub steppingRefused : List ℕ → Clock → List ℕ → List ℕ → List ℕ → List ℕ → ℕ → ℕ → Example
-steppingRefused file clock first second words out number place =
-    asks (stepping file clock first second words out) (says (refuses number place) out)
+use Rattle.promises.specs.Questions.{generating, reading, setting, following, stepping, running, reordering, making, readLines, switchLines, writeLines, measuring, says, shows, bytes, lines, long, answer, Example, asks, generatingRefused, readingRefused, settingRefused, followingRefused, steppingRefused}
 
 -- ---- the marked examples
 
@@ -199,9 +92,8 @@ marked =
     ∷ readingRefused (0x00 ∷ 0x60 ∷ 0x30 ∷ 0x0C ∷ 0x0C ∷ 0xA8 ∷ 0x58 ∷ 0x2A ∷ 0x2E ∷ 0xFE ∷ 0xD0 ∷ []) (replicate 12 0) 24 6 0
     ∷ readingRefused (0x00 ∷ 0x60 ∷ 0x30 ∷ 0x0C ∷ 0x0C ∷ 0xA8 ∷ 0x58 ∷ 0x2A ∷ 0x2E ∷ 0xFE ∷ 0xD0 ∷ 0xE1 ∷ []) (replicate 12 0) 24 8 0
     ∷ readingRefused (0x00 ∷ 0x60 ∷ 0x31 ∷ 0x0C ∷ 0x0C ∷ 0xA8 ∷ 0x58 ∷ 0x2A ∷ 0x2E ∷ 0xFE ∷ 0xD0 ∷ 0xE0 ∷ []) (replicate 12 0) 24 7 0
-    -- 8 and 11 to 13: no words, a width that does not divide, images that repeat or stray
+    -- 8, 12 and 13: no words, images that repeat or stray
     ∷ generatingRefused 0 1 [] 3 1024 1 0
-    ∷ generatingRefused 10 3 (0 ∷ 1 ∷ 2 ∷ 3 ∷ 4 ∷ 5 ∷ 6 ∷ 7 ∷ 8 ∷ 9 ∷ []) 20 1064 3 0
     ∷ generatingRefused 2 1 (0 ∷ 0 ∷ []) 4 1032 5 1
     ∷ generatingRefused 2 1 (2 ∷ 0 ∷ []) 4 1032 4 0
     -- "The longest is 12,291 (n 4,096, width 1)"
@@ -220,8 +112,7 @@ generatings =
     -- n 4,096 and width 64 pass (12: no memory is lent)
     ∷ generatingRefused 4096 1 [] 0 0 12 0
     ∷ generatingRefused 128 64 [] 0 0 12 0
-    -- 3 before 12; 12, before 4, for images, file and scratch one short
-    ∷ generatingRefused 10 3 [] 0 0 3 0
+    -- 12, before 4, for images, file and scratch one short
     ∷ generatingRefused 2 1 (9 ∷ []) 4 1032 12 0
     ∷ generatingRefused 2 1 (9 ∷ 1 ∷ []) 3 1032 12 0
     ∷ generatingRefused 2 1 (9 ∷ 1 ∷ []) 4 1031 12 0
@@ -230,6 +121,47 @@ generatings =
     -- a 5 at a lower i before a 4 at a higher one, and the other way round
     ∷ generatingRefused 3 1 (0 ∷ 0 ∷ 9 ∷ []) 5 1036 5 1
     ∷ generatingRefused 3 1 (0 ∷ 9 ∷ 0 ∷ []) 5 1036 4 1
+    ∷ []
+
+-- ---- generating at a width that does not divide (document 02, #101)
+
+-- ten words that keep their places, and the images of a list that strays at its last one
+abbrev pub straight10 : List ℕ
+straight10 = 0 ∷ 1 ∷ 2 ∷ 3 ∷ 4 ∷ 5 ∷ 6 ∷ 7 ∷ 8 ∷ 9 ∷ []
+
+abbrev pub nine : List ℕ
+nine = 0 ∷ 1 ∷ 2 ∷ 3 ∷ 4 ∷ 5 ∷ 6 ∷ 7 ∷ 8 ∷ []
+
+-- example 11, "an accepted set for n 12": one of the sets that read so
+abbrev pub straight12 : List ℕ
+straight12 = 0x00 ∷ 0x60 ∷ 0x30 ∷ 0x00 ∷ 0x00 ∷ 0x2A ∷ 0x05 ∷ 0x6A ∷ 0x05 ∷ 0x5F ∷ 0x83 ∷ 0xF0 ∷ []
+
+abbrev pub extensions : List Example
+extensions =
+    -- example 11: accepted, with memory for 12 words; the set is read as 12 words in their places
+    asks (generating 10 3 straight10 12 1072) (says (accepts (12 ∷ [])) [])
+    ∷ asks (making 10 3 straight10 ((0 ∷ 0 ∷ 0 ∷ []) ∷ (1 ∷ 1 ∷ 1 ∷ []) ∷ (2 ∷ 2 ∷ 2 ∷ []) ∷ (3 ∷ 3 ∷ 3 ∷ []) ∷ [])) (bytes straight12)
+    ∷ asks (reading straight12 (replicate 12 7) 24) (says (accepts (12 ∷ 3 ∷ [])) (tabulate 12 (λ i. i)))
+    -- sets of one cycle, with a width above n
+    ∷ asks (making 2 3 (1 ∷ 0 ∷ []) []) (bytes (0x00 ∷ 0x18 ∷ 0x30 ∷ 0x08 ∷ []))
+    ∷ asks (making 1 2 (0 ∷ []) []) (bytes (0x00 ∷ 0x10 ∷ 0x20 ∷ 0x00 ∷ []))
+    ∷ asks (making 1 3 (0 ∷ []) []) (bytes (0x00 ∷ 0x18 ∷ 0x30 ∷ 0x00 ∷ []))
+    ∷ asks (reading (0x00 ∷ 0x18 ∷ 0x30 ∷ 0x08 ∷ []) (replicate 3 7) 6) (says (accepts (3 ∷ 3 ∷ [])) (1 ∷ 0 ∷ 2 ∷ []))
+    -- 3: the padded n is 4,098, or 4,100; before 12. It is 4,096, 4,095 and 4,096 for the next three, and 4,097 is 1
+    ∷ generatingRefused 4096 3 [] 0 0 3 0
+    ∷ generatingRefused 4096 5 [] 0 0 3 0
+    ∷ generatingRefused 4095 64 [] 0 0 12 0
+    ∷ generatingRefused 4094 5 [] 0 0 12 0
+    ∷ generatingRefused 4033 64 [] 0 0 12 0
+    ∷ generatingRefused 4097 64 [] 0 0 1 0
+    -- 12: an image less than n, and a byte and a scratch word less than the padded n needs
+    ∷ generatingRefused 10 3 nine 12 1072 12 0
+    ∷ generatingRefused 10 3 straight10 11 1072 12 0
+    ∷ generatingRefused 10 3 straight10 12 1071 12 0
+    -- 4 by the n given; images behind n are not looked at
+    ∷ generatingRefused 10 3 (nine ++ (10 ∷ [])) 12 1072 4 9
+    ∷ generatingRefused 10 3 (nine ++ (10 ∷ 9 ∷ 11 ∷ [])) 12 1072 4 9
+    ∷ asks (generating 10 3 (straight10 ++ (0 ∷ 99 ∷ [])) 12 1072) (says (accepts (12 ∷ [])) [])
     ∷ []
 
 -- ---- the network by itself
@@ -373,7 +305,7 @@ steps =
 -- ---- all of them
 
 unfoldable pub examples : List Example
-examples = marked ++ (generatings ++ (networks ++ (readings ++ steps)))
+examples = marked ++ (generatings ++ (extensions ++ (networks ++ (readings ++ steps))))
 
 -- each question, computed, has the answer listed
 abbrev pub ExamplesHold : Type 0

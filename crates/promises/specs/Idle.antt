@@ -6,7 +6,7 @@ use mathlib.Core.List.{List, [], _∷_, _++_}
 use lib.ListN.{length, take}
 use Rattle.refusal.specs.Replies.{accepts, refuses}
 use Rattle.images.specs.Images.{orderOf}
-use Rattle.tables.specs.Terms.{cycles, fileLength}
+use Rattle.tables.specs.Terms.{cycles, fileLength, padded}
 use Rattle.reading.specs.Reading.{readOf}
 use Rattle.machine.specs.Devices.{filling, wrote, refused, Seen, seen, Feed, feed, After, run}
 use Rattle.machine.specs.Plain.{plain, empty}
@@ -26,8 +26,9 @@ pub record Generated (n w : ℕ) (images : List ℕ) (answer : Generation) (file
 
 -- a length that was written: as many bytes read as the permutation, fewer are refused by 6 and more by 8
 pub record WrittenLength (n w : ℕ) (images file′ : List ℕ) (reported : ℕ) : Type 0 where
-  pub formula : reported ≡ fileLength n w
-  pub reads : (out memory : List ℕ) → Lent out memory n → ReadsAs readOf (take reported file′) out memory n w (orderOf n images)
+  pub formula : reported ≡ fileLength (padded n w) w
+  pub reads : (out memory : List ℕ) → Lent out memory (padded n w)
+      → ReadsAs readOf (take reported file′) out memory (padded n w) w (orderOf n images)
   pub fewer : (k : ℕ) → k < reported → (out memory : List ℕ) → toldOf (readOf (take k file′) out memory) ≡ told (refuses 6 0) out
   pub more : (k : ℕ) → reported < k → k ≤ length file′ → (out memory : List ℕ)
       → toldOf (readOf (take k file′) out memory) ≡ told (refuses 8 0) out
@@ -77,7 +78,8 @@ pub record Thrown : Type 1 where
   pub some-accepted : (read : Reader) → Exact read → ((file images scratch : List ℕ) → Refuses read file images scratch) → ⊥
   -- "one that gives the straight-through set for every P": only the straight order has it
   pub straight-alone : {n w : ℕ} {images : List ℕ} {answer : Generation} {file′ : List ℕ} → Generated n w images answer file′
-      → (out memory : List ℕ) → Lent out memory n → ReadsAs readOf (take (fileLength n w) file′) out memory n w (λ i. i)
+      → let m = padded n w in
+      (out memory : List ℕ) → Lent out memory m → ReadsAs readOf (take (fileLength m w) file′) out memory m w (λ i. i)
       → (i : ℕ) → i < n → orderOf n images i ≡ i
   -- "a machine whose banks never change": what it shows does not depend on the words that enter
   pub banks-change : {S : Type 0} (device : S → Feed → After S) (start : S) → IsPlain device start 1 1 (λ i. i)

@@ -2,7 +2,9 @@
 pub mod Demand1
 pub mod Demand2
 pub mod Demand3
+pub mod Extended
 pub mod Rule
 pub mod Plain
+pub mod Questions
 pub mod Examples
 pub mod Idle

@@ -18,32 +18,33 @@ use Rattle.setting.specs.declared.Settled.{Settled}
 use Rattle.setting.specs.declared.Setting.the-variants.{Written}
 use Rattle.passing.specs.Calls.{followOf}
 use Rattle.passing.specs.declared.following.Followed.the-variants.{Line}
-use Rattle.tables.specs.Terms.{cycles, depth, switchBits, fileLength}
+use Rattle.tables.specs.Terms.{cycles, depth, switchBits, fileLength, padded}
 use Rattle.tables.specs.Format.{switchBit}
 use Rattle.tables.specs.Datapath.{source}
 use Rattle.generator.specs.Generating.{Generable, Generates}
 use Rattle.generator.specs.declared.Generation.{Generation}
 
--- the line permutation of line t: line b goes to the port of the word that bank b gives in line t of a set for these images
-abbrev pub portOf : ℕ → ℕ → List ℕ → List ℕ → ℕ → ℕ → ℕ
-portOf n w images set t b = orderOf n images (source n w set t b) % w
+-- the line permutation of line t: line b goes to the port of the word that bank b gives in line t of a set for the permutation p
+abbrev pub portOf : ℕ → ℕ → (ℕ → ℕ) → List ℕ → ℕ → ℕ → ℕ
+portOf n w p set t b = p (source n w set t b) % w
 
 -- the switch bits that stand in line t of a set
 abbrev pub switchesOf : ℕ → ℕ → List ℕ → ℕ → List ℕ
 switchesOf n w set t = tabulate (switchBits w) (switchBit n w set t)
 
 -- line t of a set is set by the rule
-pub record LineByRule (n w : ℕ) (images set : List ℕ) (t : ℕ) : Type 0 where
+pub record LineByRule (n w : ℕ) (p : ℕ → ℕ) (set : List ℕ) (t : ℕ) : Type 0 where
   -- the words of a line have different ports
-  pub ports : Permutes w (portOf n w images set t)
+  pub ports : Permutes w (portOf n w p set t)
   -- "carried to v lines with line k to line k for k from w up"
-  pub bits : Rule (depth w) (carried w (portOf n w images set t)) (switchesOf n w set t)
+  pub bits : Rule (depth w) (carried w (portOf n w p set t)) (switchesOf n w set t)
 
 -- "a generated set has it in each line"
 abbrev pub GeneratedByRule : Type 0
 GeneratedByRule = (n w : ℕ) (images file scratch : List ℕ) (answer : Generation) (file′ scratch′ : List ℕ)
     → Generable n w images (length file) (length scratch) → Generates n w images file scratch answer file′ scratch′
-    → (t : ℕ) → t < cycles n w → LineByRule n w images (take (fileLength n w) file′) t
+    → let m = padded n w in
+    (t : ℕ) → t < cycles m w → LineByRule m w (orderOf n images) (take (fileLength m w) file′) t
 
 pub record ByRule : Type 0 where
   pub generated : GeneratedByRule

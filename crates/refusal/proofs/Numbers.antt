@@ -6,7 +6,7 @@ use Rattle.refusal.specs.declared.Refusal.{Refusal}
 use Rattle.refusal.specs.declared.Refusal.the-variants.{
   FrameSize,
   Width,
-  Uneven,
+  PaddedSize,
   OutOfRange,
   Repeated,
   FileShort,
@@ -24,7 +24,7 @@ use Rattle.refusal.specs.declared.Refusal.the-variants.{
 pub number-range : (r : Refusal) → (1 ≤ numberOf r) × (numberOf r ≤ 15)
 number-range FrameSize = (omega arith, omega arith)
 number-range Width = (omega arith, omega arith)
-number-range Uneven = (omega arith, omega arith)
+number-range PaddedSize = (omega arith, omega arith)
 number-range (OutOfRange i) = (omega arith, omega arith)
 number-range (Repeated i) = (omega arith, omega arith)
 number-range FileShort = (omega arith, omega arith)

@@ -4,7 +4,7 @@ use Rattle.refusal.specs.declared.Refusal.{Refusal}
 use Rattle.refusal.specs.declared.Refusal.the-variants.{
   FrameSize,
   Width,
-  Uneven,
+  PaddedSize,
   OutOfRange,
   Repeated,
   FileShort,
@@ -23,7 +23,7 @@ abbrev pub numberOf : Refusal → ℕ
 -- by the author of a permutation
 numberOf FrameSize = 1  -- n is 0 or above 4,096
 numberOf Width = 2  -- the width is 0 or above 64; for the network alone, not 1, 2, 4, 8, 16, 32 or 64
-numberOf Uneven = 3  -- w does not divide n
+numberOf PaddedSize = 3  -- n, extended to the next multiple of w, is above 4,096
 numberOf (OutOfRange i) = 4  -- image i is n or more
 numberOf (Repeated i) = 5  -- image i was already an earlier element's
 -- by the holder of a table set
@@ -43,7 +43,7 @@ numberOf (SwitchValue i) = 15  -- a switch value handed to the network by itself
 abbrev pub placeOf : Refusal → ℕ
 placeOf FrameSize = 0
 placeOf Width = 0
-placeOf Uneven = 0
+placeOf PaddedSize = 0
 placeOf (OutOfRange i) = i
 placeOf (Repeated i) = i
 placeOf FileShort = 0

@@ -7,8 +7,8 @@ pub enum Refusal {
     FrameSize,
     // The width is 0 or above the limit; for the network alone, no power of two up to it.
     Width,
-    // The width does not divide the frame.
-    Uneven,
+    // The frame, made longer up to the next multiple of the width, has more words than the limit.
+    PaddedSize,
     // An image is not below the frame's size, or a followed line not below the width.
     OutOfRange(usize),
     // An image was already an earlier element's.
@@ -43,7 +43,7 @@ impl Refusal {
         match self {
             Refusal::FrameSize => 1,
             Refusal::Width => 2,
-            Refusal::Uneven => 3,
+            Refusal::PaddedSize => 3,
             Refusal::OutOfRange(_) => 4,
             Refusal::Repeated(_) => 5,
             Refusal::FileShort => 6,
@@ -66,7 +66,7 @@ impl Refusal {
         match self {
             Refusal::FrameSize => 0,
             Refusal::Width => 0,
-            Refusal::Uneven => 0,
+            Refusal::PaddedSize => 0,
             Refusal::OutOfRange(image) => image,
             Refusal::Repeated(image) => image,
             Refusal::FileShort => 0,

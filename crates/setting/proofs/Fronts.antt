@@ -7,6 +7,7 @@ use native.Mathlib.Omega.{arith}
 use lib.ListN.{length, getD, take}
 use lib.Seq.{getD-take, length-take-le}
 use Rattle.images.specs.Images.{orderOf}
+use Rattle.images.proofs.Orders.{order-listed}
 use Rattle.limits.specs.Limits.{mostWidth}
 use Rattle.laws.specs.Permutation.{Permutes, inverse}
 use Rattle.laws.specs.Inverting.{Inverting}
@@ -19,12 +20,12 @@ use Rattle.network.proofs.Unique.{setting-ext}
 pub length-front : (width : ℕ) (r : List ℕ) → width ≤ mostWidth → length r ≡ mostWidth → length (take width r) ≡ width
 length-front width r few long = length-take-le width r (omega arith)
 
-module _ (width : ℕ) (images r : List ℕ) (few : width ≤ mostWidth) (P : Permutes width (orderOf width images)) (N : Narrowed width images r) where
+module _ (width : ℕ) (images r : List ℕ) (few : width ≤ mostWidth) (P : Permutes width (λ x. getD images x 0)) (N : Narrowed width images r) where
   pub front-listed : (x : ℕ) → x < width → getD images x 0 ≡ getD (take width r) x 0
   front-listed x l = sym (getD-take width r x 0 l ∙ N .each x l)
 
   pub front-permutes : Permutes width (λ i. getD (take width r) i 0)
-  front-permutes = permutes-ext width (orderOf width images) (λ i. getD (take width r) i 0) front-listed P
+  front-permutes = permutes-ext width (λ x. getD images x 0) (λ i. getD (take width r) i 0) front-listed P
 
   pub front-inverses : (back : List ℕ) → Inverting mostWidth (take width r) width back → Inverses (take width r) (take width back)
   front-inverses back I =
@@ -41,4 +42,4 @@ module _ (width : ℕ) (images r : List ℕ) (few : width ≤ mostWidth) (P : Pe
   pub front-setting : (d : ℕ) → width ≡ 2 ^ d → setting d (λ i. getD (take width r) i 0) ≡ setting d (orderOf width images)
   front-setting d e =
       setting-ext d (λ i. getD (take width r) i 0) (orderOf width images) (subst (λ (z : ℕ). Permutes z (λ i. getD (take width r) i 0)) e front-permutes)
-      (λ x l. sym (front-listed x (subst (λ (z : ℕ). x < z) (sym e) l)))
+      (λ x l. let m : x < width = subst (λ (z : ℕ). x < z) (sym e) l in sym (order-listed width images x m ∙ front-listed x m))

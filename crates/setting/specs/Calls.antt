@@ -1,5 +1,5 @@
 -- What setting a network answers.
-use Prim.Native.Nat.{ℕ, _^_}
+use Prim.Native.Nat.{ℕ}
 use mathlib.Core.List.{List, [], _∷_}
 use lib.ListN.{length, getD}
 use Rattle.refusal.specs.Replies.{Reply, accepts, refusalReply}
@@ -25,9 +25,10 @@ settledOf d = record { count = bitCount d }
 
 -- the images are refused, or the B values of the rule's setting are written
 unfoldable pub written : Checked → ℕ → List ℕ → List ℕ → SetOutcome
-written (Unfit r) d images values = setOutcome (Unset r) values
-written Permutation d images values =
-    setOutcome (Written (settledOf d)) (overwrite (bitCount d) (λ i. getD (setting d (orderOf (2 ^ d) images)) i 0) values)
+written (Unfit r) width images values = setOutcome (Unset r) values
+written Permutation width images values =
+    let d : ℕ = depthOf width in
+    setOutcome (Written (settledOf d)) (overwrite (bitCount d) (λ i. getD (setting d (orderOf width images)) i 0) values)
 
 -- setting a network: 2, 12, then 4 and 5 by rising i
 unfoldable pub settingOf : ℕ → List ℕ → List ℕ → SetOutcome
@@ -35,7 +36,7 @@ settingOf width images values =
     let d : ℕ = depthOf width in
     ifLt 6 d (setOutcome (Unset Width) values)
     (ifLt (length images) width (setOutcome (Unset BufferShort) values)
-    (ifLt (length values) (bitCount d) (setOutcome (Unset BufferShort) values) (written (checkOf images width) d images values)))
+    (ifLt (length values) (bitCount d) (setOutcome (Unset BufferShort) values) (written (checkOf images width) width images values)))
 
 -- "setting a network, B beside the B written values"
 unfoldable pub settingReply : Setting → Reply

@@ -12,13 +12,12 @@ use Rattle.laws.proofs.Choices.{ifLt-no, ifLt-yes, ifEq-both}
 use Rattle.bits.specs.Bits.{field}
 use Rattle.bits.proofs.Fields.{field-take}
 use Rattle.refusal.specs.declared.Refusal.the-variants.{FileShort, Header, FileLong}
-use Rattle.tables.specs.Terms.{fileLength, limitsOf}
+use Rattle.tables.specs.Terms.{fileLength}
 use Rattle.tables.specs.Header.{leastHeader, headerWords, headerWidth, headerZeros}
 use Rattle.tables.specs.Format.{Form, headerTest, lengthTest, openOf}
-use Rattle.tables.proofs.LimitTests.{limit-passes, limit-both}
+use Rattle.tables.proofs.LimitTests.{dims-both}
 use Rattle.tables.specs.declared.Opened.{Opened}
 use Rattle.tables.specs.declared.Opened.the-variants.{Refused}
-use Rattle.tables.specs.declared.Limits.the-variants.{Kept, Refused as Unkept}
 use Rattle.tables.proofs.Dims.{Dims, fileLength-header}
 use Rattle.tables.proofs.Longest.{fileLength-longest}
 use Rattle.tables.proofs.Header.{begins-opens}
@@ -29,7 +28,7 @@ open-beyond : (file : List ℕ) → 12292 ≤ length file → openOf file ≡ he
 unfolding openOf headerTest lengthTest
 open-beyond file long =
     sym (ifLt-no (length file) leastHeader _ _ _ (omega arith)
-    (limit-both Same n w (λ _. Refused Header) _ (λ _. Refused Header) _ (λ _. refl)
+    (dims-both Same n w (Refused Header) _ (Refused Header) _ refl
     (λ D. ifEq-both Same (headerZeros file) 0 _ _ _ _ (λ _. beyond D) (λ _. refl))))
   where
     Same : Opened → Opened → Type 0
@@ -66,12 +65,12 @@ module _ (file : List ℕ) (k : ℕ) (l : 12292 ≤ k) where
 module _ {n w : ℕ} (file : List ℕ) (F : Form n w (take (fileLength n w) file)) where
   -- every part of it with three bytes or more has the set's header, so its length decides
   cut-judged : (k : ℕ) → leastHeader ≤ length (take k file) → openOf (take k file) ≡ lengthTest n w (take k file)
-  unfolding limitsOf headerWords headerWidth headerZeros
+  unfolding headerWords headerWidth headerZeros
   cut-judged k some =
       let says = begins-opens (take (fileLength n w) file) (F .dims) (F .begins) in
       let least : leastHeader ≤ k = omega (arith, length-take k file) in
       opened-kept (take k file) (sym (same k least 0 13 (omega arith) ∙ says .0)) (sym (same k least 13 7 (omega arith) ∙ says .1))
-      (sym (same k least 20 4 (omega arith) ∙ says .2)) some refl (limit-passes Unkept Kept (F .dims))
+      (sym (same k least 20 4 (omega arith) ∙ says .2)) some refl (F .dims)
     where
       same : (k : ℕ) → leastHeader ≤ k → (at size : ℕ) → at + size ≤ 24
           → field (take k file) at size ≡ field (take (fileLength n w) file) at size

@@ -26,7 +26,7 @@ use Rattle.tables.proofs.Dims.{Dims, fileLength-header}
 use Rattle.tables.proofs.Opens.{shape-own}
 use Rattle.tables.proofs.SetBits.{digit-none, length-setOf}
 use Rattle.tables.proofs.ReadsBack.{setOf-begins, filling-setOf}
-use Rattle.tables.proofs.LimitTests.{limit-passes, limit-cases}
+use Rattle.tables.proofs.LimitTests.{dims-passes, dims-cases}
 use Rattle.tables.proofs.Header.{begins-opens, opens-begins}
 
 -- ---- the filling
@@ -65,7 +65,7 @@ module _ {n w : ℕ} {file : List ℕ} (F : Form n w file) where
   -- it opens
   pub form-opened : openOf file ≡ Set (shapeOf n w)
   unfolding openOf headerTest lengthTest
-  form-opened = rw (form-words, form-width, limit-passes (λ _. Refused Header) _ (F .dims)) (sym (
+  form-opened = rw (form-words, form-width, dims-passes (Refused Header) _ (F .dims)) (sym (
       ifLt-no (length file) leastHeader _ _ _ (omega (arith, F .long, fileLength-header n w)) (
       ifEq-yes (headerZeros file) 0 _ _ _ form-zeros (
       ifLt-no (length file) (fileLength n w) _ _ _ (omega (arith, F .long)) (
@@ -87,7 +87,7 @@ open-cases file =
     let n : ℕ = headerWords file in
     let w : ℕ = headerWidth file in
     ifLt-cases Judged (length file) leastHeader _ _ (λ _. inr (FileShort, refl)) λ l.
-    limit-cases Judged n w _ _ (λ _. inr (Header, refl)) λ dims.
+    dims-cases Judged n w _ _ (inr (Header, refl)) λ dims.
     ifEq-cases Judged (headerZeros file) 0 _ _ (λ zeros.
     ifLt-cases Judged (length file) (fileLength n w) _ _ (λ _. inr (FileShort, refl)) λ enough.
     ifLt-cases Judged (fileLength n w) (length file) _ _ (λ _. inr (FileLong, refl)) λ exact.

@@ -1,5 +1,6 @@
 -- The terms, and which files have the right form.
 pub mod Dims
+pub mod Padded
 pub mod Longest
 pub mod LimitTests
 pub mod Header

@@ -16,13 +16,13 @@ use Rattle.refusal.specs.declared.Refusal.the-variants.{Header}
 use Rattle.bits.proofs.Digits.{one-shl}
 use Rattle.network.specs.Network.{bitCount}
 use Rattle.tables.specs.Header.{headerBits, leastHeader, headerWords, headerWidth, headerZeros}
-use Rattle.tables.specs.Terms.{Dims, limitTest, limitsOf, logUp, cycles, addressBits, depth, switchBits, addressRow, lineBits, fileLength}
+use Rattle.tables.specs.Terms.{Dims, dimsTest, limitsOf, logUp, cycles, addressBits, depth, switchBits, addressRow, lineBits, fileLength}
 use Rattle.tables.specs.Format.{lineAt, shapeOf, Shaped, headerTest, lengthTest, openOf}
 use Rattle.tables.specs.declared.Shape.{Shape}
 use Rattle.tables.specs.declared.Opened.{Opened}
 use Rattle.tables.specs.declared.Opened.the-variants.{Refused}
 use Rattle.tables.specs.declared.Limits.the-variants.{Kept, Refused as Unkept}
-use Rattle.tables.proofs.LimitTests.{limit-cases, limit-passes, limits-kept, limits-refused}
+use Rattle.tables.proofs.LimitTests.{limit-passes, limits-kept, limits-refused, dims-cases, dims-passes}
 use Rattle.tables.proofs.Dims.{logUp-least, logUp-reaches, depth-few, addressRow-few, switchBits-few}
 
 -- ---- the least power of two that is large enough
@@ -117,18 +117,22 @@ module _ {n w : ℕ} {s : Shape} (D : Dims n w) (e : s ≡ shapeOf n w) where
 -- those of the whole file
 module _ {n w z : ℕ} (file : List ℕ) (words : n ≡ headerWords file) (width : w ≡ headerWidth file) (zeros : z ≡ headerZeros file)
     (long : leastHeader ≤ length file) where
-  opened : openOf file ≡ limitTest n w (λ _. Refused Header) (ifEq z 0 (lengthTest n w file) (Refused Header))
+  opened : openOf file ≡ dimsTest n w (Refused Header) (ifEq z 0 (lengthTest n w file) (Refused Header))
   unfolding openOf headerTest
   opened = rw (words, width, zeros) (sym (ifLt-no (length file) leastHeader _ _ _ long refl))
 
   pub opened-zeros : (z ≡ 0 → ⊥) → openOf file ≡ Refused Header
   opened-zeros set =
-      opened
-      ∙ limit-cases (λ (o : Opened). o ≡ Refused Header) n w (λ _. Refused Header) _ (λ _. refl) (λ _. sym (ifEq-no z 0 _ _ _ set refl))
+      opened ∙ dims-cases (λ (o : Opened). o ≡ Refused Header) n w (Refused Header) _ refl (λ _. sym (ifEq-no z 0 _ _ _ set refl))
 
   pub opened-broken : (r : Refusal) → limitsOf n w ≡ Unkept r → openOf file ≡ Refused Header
+  unfolding dimsTest
   opened-broken r broken = opened ∙ limits-refused n w r (λ _. Refused Header) _ broken
 
-  pub opened-kept : z ≡ 0 → limitsOf n w ≡ Kept → openOf file ≡ lengthTest n w file
-  opened-kept clear kept =
-      opened ∙ limit-passes (λ _. Refused Header) _ (limits-kept n w kept) ∙ sym (ifEq-yes z 0 _ _ _ clear refl)
+  pub opened-uneven : limitsOf n w ≡ Kept → (n % w ≡ 0 → ⊥) → openOf file ≡ Refused Header
+  unfolding dimsTest
+  opened-uneven kept uneven =
+      opened ∙ limit-passes (λ _. Refused Header) _ (limits-kept n w kept) ∙ sym (ifEq-no (n % w) 0 _ _ _ uneven refl)
+
+  pub opened-kept : z ≡ 0 → Dims n w → openOf file ≡ lengthTest n w file
+  opened-kept clear D = opened ∙ dims-passes (Refused Header) _ D ∙ sym (ifEq-yes z 0 _ _ _ clear refl)

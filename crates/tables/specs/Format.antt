@@ -6,7 +6,7 @@ use lib.ListN.{length}
 use Rattle.laws.specs.Choice.{ifLt, ifEq}
 use Rattle.bits.specs.Bits.{bit, field}
 use Rattle.refusal.specs.declared.Refusal.the-variants.{FileShort, Header, FileLong}
-use Rattle.tables.specs.Terms.{Dims, cycles, addressBits, depth, switchBits, addressRow, lineBits, fileLength, limitTest}
+use Rattle.tables.specs.Terms.{Dims, cycles, addressBits, depth, switchBits, addressRow, lineBits, fileLength, dimsTest}
 use Rattle.tables.specs.Header.{headerBits, Begins, leastHeader, headerWords, headerWidth, headerZeros}
 use Rattle.tables.specs.declared.Shape.{Shape}
 use Rattle.tables.specs.declared.Opened.{Opened}
@@ -66,7 +66,7 @@ pub record Shaped (s : Shape) : Type 0 where
 -- 7: "the header breaks a limit, w does not divide n, or one of its four last bits is set"
 unfoldable pub headerTest : List ℕ → Opened → Opened
 headerTest file next =
-    limitTest (headerWords file) (headerWidth file) (λ _. Refused Header) (ifEq (headerZeros file) 0 next (Refused Header))
+    dimsTest (headerWords file) (headerWidth file) (Refused Header) (ifEq (headerZeros file) 0 next (Refused Header))
 
 -- the tests of a whole file for its n and w: its length, and the filling
 unfoldable pub lengthTest : ℕ → ℕ → List ℕ → Opened

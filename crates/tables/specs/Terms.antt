@@ -1,16 +1,23 @@
 -- Document 01, "The terms": the numbers that n and w determine.
-use Prim.Native.Nat.{ℕ, zero, suc, _+_, _*_, _/_, _%_, _^_, _<_, _≤_}
+use Prim.Native.Nat.{ℕ, zero, suc, _+_, _*_, _-_, _/_, _%_, _^_, _<_, _≤_}
 use mathlib.Core.Path.{_≡_}
 use Rattle.limits.specs.Limits.{mostWords, mostWidth}
 use Rattle.laws.specs.Choice.{ifLt, ifLe, ifEq}
 use Rattle.refusal.specs.declared.Refusal.{Refusal}
-use Rattle.refusal.specs.declared.Refusal.the-variants.{FrameSize, Width, Uneven}
+use Rattle.refusal.specs.declared.Refusal.the-variants.{FrameSize, Width}
 use Rattle.network.specs.Network.{bitCount}
 use Rattle.tables.specs.Header.{headerBits}
 use Rattle.tables.specs.declared.Limits.{Limits}
 use Rattle.tables.specs.declared.Limits.the-variants.{Kept, Refused}
 
--- n is 1 to 4,096, w is 1 to 64, and w divides n
+-- n is 1 to 4,096, and w is 1 to 64
+pub record Limited (n w : ℕ) : Type 0 where
+  pub some : 0 < n
+  pub few : n ≤ mostWords
+  pub wide : 0 < w
+  pub narrow : w ≤ mostWidth
+
+-- the dimensions of a set: n is 1 to 4,096, w is 1 to 64, and w divides n
 pub record Dims (n w : ℕ) : Type 0 where
   pub some : 0 < n
   pub few : n ≤ mostWords
@@ -18,15 +25,22 @@ pub record Dims (n w : ℕ) : Type 0 where
   pub narrow : w ≤ mostWidth
   pub even : n % w ≡ 0
 
--- the tests of n and w in the order of their numbers: 1, 2, 3; then next
+-- the tests of n and w in the order of their numbers: 1, 2; then next
 unfoldable pub limitTest : {X : Type 0} → ℕ → ℕ → (Refusal → X) → X → X
 limitTest n w refused next =
     ifLt n 1 (refused FrameSize)
-    (ifLt mostWords n (refused FrameSize)
-    (ifLt w 1 (refused Width) (ifLt mostWidth w (refused Width) (ifEq (n % w) 0 next (refused Uneven)))))
+    (ifLt mostWords n (refused FrameSize) (ifLt w 1 (refused Width) (ifLt mostWidth w (refused Width) next)))
 
 unfoldable pub limitsOf : ℕ → ℕ → Limits
 limitsOf n w = limitTest n w Refused Kept
+
+-- the tests of the dimensions of a set: the limits, and that w divides n
+unfoldable pub dimsTest : {X : Type 0} → ℕ → ℕ → X → X → X
+dimsTest n w refused next = limitTest n w (λ _. refused) (ifEq (n % w) 0 next refused)
+
+-- the padded n, document 02's "longer n": the words of a frame of n words that is extended "up to the next multiple of w"
+unfoldable pub padded : ℕ → ℕ → ℕ
+padded n w = (n + (w - 1)) / w * w
 
 -- e, or the first number above it, up to e + k, whose power of two is at least x
 unfoldable pub logFrom : ℕ → ℕ → ℕ → ℕ

@@ -33,7 +33,7 @@ pub struct Shape {
     pub stride: usize,
 }
 
-// Whether n and w keep the limits: 1, 2, 3.
+// Whether n and w keep the limits: 1, 2.
 pub enum Limits {
     Kept,
     Refused(Refusal),

@@ -74,10 +74,7 @@ pub fn test_limits(words: usize, width: usize) -> Limits
     if MOST_WIDTH < width {
         return Limits::Refused(Refusal::Width);
     }
-    if words % width == 0 {
-        return Limits::Kept;
-    }
-    Limits::Refused(Refusal::Uneven)
+    Limits::Kept
 }
 
 // The number in the last `count` bits of a file, which stand in its last byte.
@@ -123,6 +120,11 @@ pub fn open(file: &[u8]) -> Opened
     }
     match test_limits(words, width) {
         Limits::Refused(_) => Opened::Refused(Refusal::Header),
-        Limits::Kept => open_whole(file, shape_of(words, width)),
+        Limits::Kept => {
+            if words % width == 0 {
+                return open_whole(file, shape_of(words, width));
+            }
+            Opened::Refused(Refusal::Header)
+        }
     }
 }

@@ -29,15 +29,15 @@ type Call = fn(&mut Case);
 
 impl Case<'_> {
     fn new(w: usize, order: &[u16]) -> Case<'_> {
-        let n = order.len();
+        let dims = Dims::padded(order.len(), w);
         Case {
             w,
             order,
-            file: vec![0; Dims::new(n, w).length],
-            scratch: vec![0; generate_scratch(n)],
-            images: vec![0; n],
-            first: vec![0; 2 * n],
-            second: vec![0; 2 * n],
+            file: vec![0; dims.length],
+            scratch: vec![0; generate_scratch(order.len(), w)],
+            images: vec![0; dims.n],
+            first: vec![0; 2 * dims.n],
+            second: vec![0; 2 * dims.n],
             words: vec![7; w],
             out: vec![0; w],
         }
@@ -68,7 +68,7 @@ macro_rules! calls {
                 fill: 2,
                 ..Clock::default()
             };
-            for _ in 0..case.order.len() / case.w {
+            for _ in 0..case.images.len() / case.w {
                 black_box(calls::step(
                     black_box(&case.file),
                     &mut clock,
@@ -107,10 +107,11 @@ fn measure(w: usize, order: &[u16]) -> [[f64; 3]; 2] {
 
 fn row(name: &str, w: usize, order: &[u16]) {
     let n = order.len();
+    let words = Dims::padded(n, w).n as f64;
     let [ours, theirs] = measure(w, order);
     print!("| {n} | {w} | {name} |");
     for call in 0..3 {
-        let (a, b) = (ours[call] / n as f64, theirs[call] / n as f64);
+        let (a, b) = (ours[call] / words, theirs[call] / words);
         print!(" {a:.1} | {b:.1} | {:.2} |", a / b);
     }
     println!(" {:.3} |", ours[0] / 1e6);
@@ -156,7 +157,8 @@ fn main() {
         row("stride 64", w, &stride(n, 64));
         row("stride 2", w, &stride(n, 2));
     }
-    for (n, w) in [(1000, 8), (4095, 63)] {
+    // 1,000 words at width 16 are extended to 1,008
+    for (n, w) in [(1000, 8), (1000, 16), (4095, 63)] {
         row("random", w, &random.order(n));
         row("identity", w, &identity(n));
         row("stride 5", w, &stride(n, 5));

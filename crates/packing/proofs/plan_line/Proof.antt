@@ -35,7 +35,7 @@ start c = c .before .before .before .before
 abbrev word : tie.After-word Inv-loop μ-loop → ℕ
 word c = getD (start c .args .words .now) (c .before .before .loop .k) 0
 
-word-few : (c : tie.After-word Inv-loop μ-loop) → (word c < length (start c .args .images .now)) × (word c < mostWords)
+word-few : (c : tie.After-word Inv-loop μ-loop) → word c < mostWords
 word-few c = start c .pre .1 .0 (c .before .before .loop .k) (omega (arith, c .before .loop-test .taken))
 
 bank-few : (c : tie.After-word Inv-loop μ-loop) → word c % start c .args .w < mostWidth
@@ -72,13 +72,13 @@ element-write-back : tie.Need-element-write-back Inv-loop μ-loop
 element-write-back c = search needs
 
 image-at-requires : tie.Need-image-at-requires Inv-loop μ-loop
-image-at-requires c κs = word-few c .0
+image-at-requires c κs = search needs
 
 div-writes : tie.Need-div-writes Inv-loop μ-loop
 div-writes c = search needs
 
 cast-writes : tie.Need-cast-writes Inv-loop μ-loop
-cast-writes c = omega (arith, c .image-at .ensures .1, div-le-self (c .image-at .result) (start (c .before) .args .w))
+cast-writes c = omega (arith, c .image-at .ensures .1 (omega (arith, word-few (c .before))), div-le-self (c .image-at .result) (start (c .before) .args .w))
 
 mul-writes : tie.Need-mul-writes Inv-loop μ-loop
 mul-writes c = search needs

@@ -3,15 +3,14 @@ use Prim.Native.Nat.{ℕ, _-_, _≤_}
 use mathlib.Core.Path.{refl}
 use native.Mathlib.Omega.{arith}
 use borrow.Author.Needs.{needs}
-use lib.ListN.{length-replicate}
-use Rattle.images.specs.Images.{orderOf}
+use lib.ListN.{getD, length-replicate}
 use Rattle.limits.specs.Limits.{mostWidth}
 use Rattle.laws.proofs.Tabulates.{Filling, filling-more}
 use Rattle.setting.proofs.narrow.Statement.{statement}
 use Rattle.setting.proofs.narrow.Tie as tie
 
 abbrev Inv-loop : tie.InvT-loop
-Inv-loop images width forward₀ i₀ forward i = (i ≤ width) × Filling (orderOf width images) mostWidth i forward
+Inv-loop images width forward₀ i₀ forward i = (i ≤ width) × Filling (λ x. getD images x 0) mostWidth i forward
 
 abbrev μ-loop : tie.MeasureT-loop
 μ-loop images width forward₀ i₀ forward i = width - i

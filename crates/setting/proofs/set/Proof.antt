@@ -9,7 +9,7 @@ use lib.Seq.{length-take-le}
 use Rattle.laws.specs.Tabulate.{tabulate, overwrite}
 use Rattle.laws.proofs.Choices.{ifLt-yes, ifLt-no}
 use Rattle.laws.proofs.Tabulates.{tabulate-getD}
-use Rattle.images.specs.Images.{checkOf}
+use Rattle.images.specs.Images.{checkOf, orderOf}
 use Rattle.images.proofs.Exact.{check-permutes}
 use Rattle.images.specs.declared.Checked.{Checked}
 use Rattle.images.specs.declared.Checked.the-variants.{Permutation}
@@ -75,7 +75,7 @@ sized c = (depth-width _ (deep-checked c), lent-long c ∙ count-checked c)
 -- what is left of the chain once all lengths are tested
 told : (c : tie.After-check) {o : SetOutcome}
     → let a = from-check c .args in
-    o ≡ written (checkOf (a .images .now) (a .width)) (depthOf (a .width)) (a .images .now) (a .values .now)
+    o ≡ written (checkOf (a .images .now) (a .width)) (a .width) (a .images .now) (a .values .now)
     → o ≡ settingOf (a .width) (a .images .now) (a .values .now)
 unfolding settingOf
 told c e =
@@ -130,7 +130,7 @@ unfolding written
 returns-4 c =
     let k = c .before .before .before in
     let a = from-check k .args in
-    told k (ap (λ (z : Checked). written z (depthOf (a .width)) (a .images .now) (a .values .now)) (sym (c .before .refusal .given .1) ∙ checked k))
+    told k (ap (λ (z : Checked). written z (a .width) (a .images .now) (a .values .now)) (sym (c .before .refusal .given .1) ∙ checked k))
 
 same-length : tie.Need-same-length
 same-length c = search needs
@@ -139,13 +139,14 @@ same-length c = search needs
 values-known : (c : tie.After-set-images)
     → let a = from-lent (c .before) .args in
     c .set-images .last .1 .1 .0
-    ≡ tabulate (bitCount (depthOf (a .width))) (λ i. getD (setting (depthOf (a .width)) (λ x. getD (a .images .now) x 0)) i 0)
+    ≡ tabulate (bitCount (depthOf (a .width))) (λ i. getD (setting (depthOf (a .width)) (orderOf (a .width) (a .images .now))) i 0)
 values-known c =
     let a = from-lent (c .before) .args in
     let d : ℕ = depthOf (a .width) in
-    let s : List ℕ = setting d (λ x. getD (a .images .now) x 0) in
+    let p : ℕ → ℕ = orderOf (a .width) (a .images .now) in
+    let s : List ℕ = setting d p in
     c .set-images .ensures d (sized (c .before .before .before .before))
-    ∙ tabulate-getD s 0 ∙ ap (λ (k : ℕ). tabulate k (λ i. getD s i 0)) (length-setting d (λ x. getD (a .images .now) x 0))
+    ∙ tabulate-getD s 0 ∙ ap (λ (k : ℕ). tabulate k (λ i. getD s i 0)) (length-setting d p)
 
 returns-5 : tie.Need-returns-5
 unfolding written settledOf overwrite
@@ -157,7 +158,7 @@ returns-5 c =
     told k (
     ap₂ (λ (n : ℕ) (xs : List ℕ). setOutcome (Written (record { count = n })) (xs ++ drop n (a .values .now)))
     (count-checked k) (values-known (c .before .before))
-    ∙ ap (λ (z : Checked). written z (depthOf (a .width)) (a .images .now) (a .values .now)) fine)
+    ∙ ap (λ (z : Checked). written z (a .width) (a .images .now) (a .values .now)) fine)
 
 pub set-spec : {M : Type 1} → statement M
 set-spec =

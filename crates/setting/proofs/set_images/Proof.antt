@@ -2,7 +2,9 @@
 use mathlib.Core.Path.{_≡_, sym, _∙_}
 use native.Mathlib.Omega.{arith}
 use borrow.Author.Needs.{needs}
-use lib.ListN.{length, take}
+use lib.ListN.{length, getD, take}
+use Rattle.laws.specs.Permutation.{Permutes}
+use Rattle.images.proofs.Orders.{listed-permutes}
 use Rattle.setting.proofs.Fronts.{length-front, front-permutes, front-inverses, front-setting}
 use Rattle.setting.proofs.set_images.Statement.{statement}
 use Rattle.setting.proofs.set_images.Tie as tie
@@ -22,10 +24,16 @@ invert-lent c = c .before .before .before
 front-long : (c : tie.After-narrow) → length (take (from-narrow c .args .width) (c .narrow .result)) ≡ from-narrow c .args .width
 front-long c = length-front _ _ (from-narrow c .pre .1 .0 .0) (c .narrow .ensures .long)
 
+-- the images are a permutation
+listed : (s : tie.Start) → Permutes (s .args .width) (λ x. getD (s .args .images .now) x 0)
+listed s = listed-permutes _ (s .args .images .now) (s .pre .1 .1)
+
 -- ---- the needs
 
 narrow-requires : tie.Need-narrow-requires
-narrow-requires c κs = search needs
+narrow-requires c κs =
+    let s = c .before .before in
+    (s .pre .1 .0, listed s .below)
 
 array-share-prefix-forward : tie.Need-array-share-prefix-forward
 array-share-prefix-forward c = search needs
@@ -36,7 +44,7 @@ slice-aggregate-invert c = sym (front-long (c .before))
 invert-requires : tie.Need-invert-requires
 invert-requires c κs =
     let s = from-narrow (c .before) in
-    ((s .pre .1 .0 .0, sym (front-long (c .before))), front-permutes _ _ _ (s .pre .1 .0 .0) (s .pre .1 .1) (c .before .narrow .ensures))
+    ((s .pre .1 .0 .0, sym (front-long (c .before))), front-permutes _ _ _ (s .pre .1 .0 .0) (listed s) (c .before .narrow .ensures))
 
 array-share-prefix-forward-2 : tie.Need-array-share-prefix-forward-2
 array-share-prefix-forward-2 c = search needs
@@ -61,7 +69,7 @@ set-bits-requires c κs =
       (s .pre .0 .0, (long ∙ s .pre .0 .1 .0, s .pre .0 .1 .1)),
       (
         omega (arith, long, s .pre .1 .0 .0),
-        front-inverses _ _ _ (s .pre .1 .0 .0) (s .pre .1 .1) (N .narrow .ensures) _ (k .invert .ensures),
+        front-inverses _ _ _ (s .pre .1 .0 .0) (listed s) (N .narrow .ensures) _ (k .invert .ensures),
       ),
     )
 
@@ -73,7 +81,7 @@ returns c =
     let set : tie.After-set-bits = c .before .before in
     let N = narrow-invert (invert-lent (set .before)) in
     let s = from-narrow N in λ d q.
-    set .set-bits .ensures d (front-long N ∙ q .0, q .1) ∙ front-setting _ _ _ (s .pre .1 .0 .0) (s .pre .1 .1) (N .narrow .ensures) d (q .0)
+    set .set-bits .ensures d (front-long N ∙ q .0, q .1) ∙ front-setting _ _ _ (s .pre .1 .0 .0) (listed s) (N .narrow .ensures) d (q .0)
 
 pub set-images-spec : {M : Type 1} → statement M
 set-images-spec =

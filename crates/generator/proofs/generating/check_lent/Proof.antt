@@ -21,7 +21,7 @@ shape-of-requires : tie.Need-shape-of-requires
 shape-of-requires c κs = search needs
 
 file-length-requires : tie.Need-file-length-requires
-file-length-requires c κs = shape-own (c .before .before .before .pre) (c .shape-of .ensures)
+file-length-requires c κs = shape-own (c .before .before .before .pre .0) (c .shape-of .ensures)
 
 -- the start
 abbrev start : tie.After-shape-of → tie.Start
@@ -31,11 +31,11 @@ start c = c .before .before .before
 measured : (c : tie.After-file-length) {r : Checked}
     → let s = start (c .before) in
     r ≡ ifLt (s .args .room) (c .file-length .result) (Refused BufferShort)
-    (ifLt (s .args .scratch) (4 * s .args .n + 1024) (Refused BufferShort) (checkOf (s .args .images .now) (s .args .n)))
-    → r ≡ lentTest (s .args .n) (s .args .w) (s .args .images .now) (s .args .room) (s .args .scratch)
+    (ifLt (s .args .scratch) (4 * s .args .words + 1024) (Refused BufferShort) (checkOf (s .args .images .now) (s .args .n)))
+    → r ≡ lentTest (s .args .n) (s .args .words) (s .args .w) (s .args .images .now) (s .args .room) (s .args .scratch)
 unfolding lentTest scratchNeed
 measured c h =
-    let e = c .file-length .ensures ∙ shape-fileLength (start (c .before) .pre) (c .before .shape-of .ensures) in
+    let e = c .file-length .ensures ∙ shape-fileLength (start (c .before) .pre .0) (c .before .shape-of .ensures) in
     ifLt-no _ _ _ _ _ (c .before .before .if1 .left) (rw e at h)
 
 returns-2 : tie.Need-returns-2

@@ -29,7 +29,7 @@ shape-of-requires : tie.Need-shape-of-requires
 shape-of-requires c κs = search needs
 
 chain-requires : tie.Need-chain-requires
-chain-requires c κs = let s = start (c .before .before) in ((s .pre .0 .0, s .pre .0 .1, s .pre .0 .2), refl)
+chain-requires c κs = let s = start (c .before .before) in ((s .pre .0 .0, s .pre .0 .1), refl)
 
 put-set-requires : tie.Need-put-set-requires
 put-set-requires c κs =
@@ -40,7 +40,7 @@ put-set-requires c κs =
     let words = shape-words (s .pre .0 .0) e in
     let width = shape-width (s .pre .0 .0) e in (
       (shape-own (s .pre .0 .0) e, rw words (s .pre .1)),
-      (rw (words, width) (s .pre .0 .1, omega (arith, L .long, s .pre .0 .2), s .pre .0 .3), rw (words, width) ((_, L), d .chain .ensures .1)),
+      (rw (words, width) (omega (arith, L .long, s .pre .0 .1), s .pre .0 .2), rw (words, width) ((_, L), d .chain .ensures .1)),
     )
 
 file-length-requires : tie.Need-file-length-requires
@@ -65,7 +65,7 @@ returns c =
     let L = d .chain .ensures .0 in (
       ap (λ (k : ℕ). record { length = k }) (c .file-length .ensures ∙ shape-fileLength D e),
       record {
-        made = made-at (s .args .images .now) (shape-words D e) (shape-width D e) (q .put-set .ensures);
+        made = made-at (shape-words D e) (shape-width D e) (q .put-set .ensures);
         scratch-long = L .long;
         scratch-kept = L .behind;
       },

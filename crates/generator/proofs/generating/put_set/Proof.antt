@@ -33,8 +33,8 @@ Inv-loop images next heads₀ edges₀ shape file₀ owner₀ words₀ reads₀ 
     (t ≤ shape .cycles)
     × ((length words ≡ mostWidth) × Blank (shape .width) reads forward back writes × (length switches ≡ mostSwitches))
     × (Open writer × (positionOf writer ≡ lineAt (shape .words) (shape .width) t))
-    × ((lines : ℕ → ℕ → ℕ) × Scheduled (shape .words) (shape .width) (orderOf (shape .words) images) lines t heads edges owner
-    × Written (setBits (shape .words) (shape .width) (orderOf (shape .words) images) lines) (wholeOf file₀ writer₀) (wholeOf file writer)
+    × ((lines : ℕ → ℕ → ℕ) × Scheduled (shape .words) (shape .width) (orderOf (length images) images) lines t heads edges owner
+    × Written (setBits (shape .words) (shape .width) (orderOf (length images) images) lines) (wholeOf file₀ writer₀) (wholeOf file writer)
     (lineAt (shape .words) (shape .width) t))
 
 abbrev μ-loop : tie.MeasureT-loop
@@ -54,7 +54,7 @@ abbrev w : Start → ℕ
 w s = s .args .shape .width
 
 abbrev p : Start → ℕ → ℕ
-p s = orderOf (n s) (s .args .images .now)
+p s = orderOf (length (s .args .images .now)) (s .args .images .now)
 
 abbrev entry : tie.After-begin Inv-loop μ-loop → Start
 entry c = c .before .before .before .before .before .before .before
@@ -109,7 +109,7 @@ file-long c = held-long (c .loop .file) (c .loop .writer) (c .loop .inv .3 .2) �
 
 -- every line starts, and the last one ends, in the lent file
 room : (s : Start) (t : ℕ) → t ≤ cycles (n s) (w s) → lineAt (n s) (w s) t ≤ 8 * length (s .args .file .now)
-room s t l = omega (arith, lines-room (n s) (w s) t l, s .pre .1 .0 .2)
+room s t l = omega (arith, lines-room (n s) (w s) t l, s .pre .1 .0 .1)
 
 numbered-requires : tie.Need-numbered-requires Inv-loop μ-loop
 numbered-requires c κs = search needs
@@ -118,7 +118,7 @@ numbered-requires-2 : tie.Need-numbered-requires-2 Inv-loop μ-loop
 numbered-requires-2 c κs = search needs
 
 begin-requires : tie.Need-begin-requires Inv-loop μ-loop
-begin-requires c κs = let s = c .before .before .before .before .before .before in (s .pre .0 .0, s .pre .1 .0 .2)
+begin-requires c κs = let s = c .before .before .before .before .before .before in (s .pre .0 .0, s .pre .1 .0 .1)
 
 loop-holds : tie.Need-loop-holds Inv-loop μ-loop
 loop-holds c =
@@ -149,7 +149,7 @@ due c =
       dims = s .pre .0 .0 .dims;
       permutes = s .pre .0 .1;
       chained = s .pre .1 .1 .0 .1 .chained;
-      lent = s .pre .1 .0 .1;
+      lent = s .pre .1 .0 .0;
       more = omega (arith, c .before .before .before .before .if1 .taken, s .pre .0 .0 .cycles);
       scheduled = a .loop .inv .3 .1;
     }
@@ -174,7 +174,7 @@ plan-line-requires c κs =
     let s = start a in
     let T = took (taken-writes c) in (
       (s .pre .0 .0 .dims .wide, s .pre .0 .0 .dims .narrow, T .long, T .banked .injective),
-      ((λ k l. (omega (arith, T .inside k l, s .pre .1 .0 .0), omega (arith, T .inside k l, s .pre .0 .0 .dims .few))), a .loop .inv .1 .1),
+      ((λ k l. omega (arith, T .inside k l, s .pre .0 .0 .dims .few)), a .loop .inv .1 .1),
     )
 
 slice-aggregate-put-line : tie.Need-slice-aggregate-put-line Inv-loop μ-loop
@@ -237,7 +237,7 @@ loop-again c =
     let placed = put .2 ∙ ap (λ (x : ℕ). putLine (n s) (w s) whole x (q .plan-line .last .1 .1 .1 .0) (q .plan-line .last .1 .1 .1 .1 .0)
     (q .plan-line .last .1 .1 .1 .1 .1 .1 .0)) (a .loop .inv .2 .1) in
     let fits : fileLength (n s) (w s) ≤ length (wholeOf (begun-loop a .begin .last .0) (begun-loop a .begin .result)) =
-    omega (arith, s .pre .1 .0 .2, headed (begun-loop a) .long) in (
+    omega (arith, s .pre .1 .0 .1, headed (begun-loop a) .long) in (
       omega (arith, d .before .before .before .before .before .if1 .taken),
       (T .long, L .blank, put .3),
       (put .0, omega (arith, put .1, a .loop .inv .2 .1, s .pre .0 .0 .stride, lineAt-suc (n s) (w s) (a .loop .t))),
@@ -254,7 +254,7 @@ end-requires : tie.Need-end-requires Inv-loop μ-loop
 end-requires c κs =
     let a = loop-end c in
     let s = start a in (
-      (s .pre .0 .0, omega (arith, s .pre .1 .0 .2, file-long a)),
+      (s .pre .0 .0, omega (arith, s .pre .1 .0 .1, file-long a)),
       (a .loop .inv .2 .0, a .loop .inv .2 .1 ∙ ap (lineAt (n s) (w s)) (all-put c)),
     )
 
@@ -268,7 +268,7 @@ returns c =
     let s = start a in
     rw (e .end .ensures)
     (set-made (a .loop .t) (all-put (e .before)) (s .pre .0 .0 .dims) (s .pre .0 .1) (lent-bytes (begun-loop a .before .before .before .before))
-    (s .pre .1 .0 .2) (headed (begun-loop a)) (a .loop .inv .3 .1) (a .loop .inv .3 .2))
+    (s .pre .1 .0 .1) (headed (begun-loop a)) (a .loop .inv .3 .1) (a .loop .inv .3 .2))
 
 pub put-set-spec : {M : Type 1} → statement M
 put-set-spec =

@@ -15,10 +15,14 @@ use Rattle.generator.proofs.scheduling.chain.Tie as tie
 
 abbrev Inv-loop : tie.InvT-loop
 Inv-loop images n w next₀ edges₀ heads₀ bank₀ i₀ next edges heads bank i =
-    (bank ≡ i % w) × Chaining n w (orderOf n images) next₀ i next heads × Drawn w heads edges
+    (bank ≡ i % w) × Chaining n w (orderOf (length images) images) next₀ i next heads × Drawn w heads edges
 
 abbrev μ-loop : tie.MeasureT-loop
 μ-loop images n w next₀ edges₀ heads₀ bank₀ i₀ next edges heads bank i = i
+
+-- the order that the images give
+abbrev p : tie.Start Inv-loop μ-loop → ℕ → ℕ
+p s = orderOf (length (s .args .images .now)) (s .args .images .now)
 
 loop-holds : tie.Need-loop-holds Inv-loop μ-loop
 loop-holds c = let s = c .before .before in (sym (s .pre .0 .0 .even), chaining-none (s .pre .0 .0), rw (s .pre .1) (drawn-none (s .pre .0 .0 .narrow)))
@@ -38,7 +42,7 @@ banked c =
     c .bank-before .ensures (l .i - 1) (l .inv .0 ∙ ap (λ (z : ℕ). z % c .before .before .before .before .before .args .w) e)
 
 image-at-requires : tie.Need-image-at-requires Inv-loop μ-loop
-image-at-requires c κs = let s = c .before .before .before .before .before in omega (arith, c .before .before .loop .inv .1 .upto, s .pre .0 .1)
+image-at-requires c κs = search needs
 
 rem-port : tie.Need-rem-port Inv-loop μ-loop
 rem-port c = search needs
@@ -74,7 +78,7 @@ mul-next-2 c = let s = c .before .before .before .before .before .before in omeg
 slice-write-next : tie.Need-slice-write-next Inv-loop μ-loop
 slice-write-next c =
     let s = c .before .before .before .before .before .before in
-    omega (arith, c .before .before .before .loop .inv .1 .upto, c .before .before .before .loop .inv .1 .long, s .pre .0 .2)
+    omega (arith, c .before .before .before .loop .inv .1 .upto, c .before .before .before .loop .inv .1 .long, s .pre .0 .1)
 
 cast-heads : tie.Need-cast-heads Inv-loop μ-loop
 cast-heads c = let s = c .before .before .before .before .before .before in omega (arith, c .before .before .before .loop .inv .1 .upto, s .pre .0 .0 .few)
@@ -104,12 +108,12 @@ loop-again c =
     let l = c .before .before .before .before .before .loop in
     let e : l .i ≡ l .i - 1 + 1 = omega (arith, c .before .before .before .before .loop-test .taken) in
     let C =
-    subst (λ (z : ℕ). Chaining (s .args .n) (s .args .w) (orderOf (s .args .n) (s .args .images .now)) (s .args .next .now) z (l .next) (l .heads)) e
+    subst (λ (z : ℕ). Chaining (s .args .n) (s .args .w) (p s) (s .args .next .now) z (l .next) (l .heads)) e
     (l .inv .1) in
     let inside : c .before .before .before .bank-before .result * mostWidth + c .before .before .image-at .result % s .args .w < length (l .heads) =
     omega (arith, within (c .before .before), l .inv .1 .headed .long) in (
       banked (c .before .before .before),
-      rw (banked (c .before .before .before), c .before .before .image-at .ensures .0) (chaining-more (s .pre .0 .0) (s .pre .0 .2) C),
+      rw (banked (c .before .before .before), c .before .before .image-at .ensures .0) (chaining-more (s .pre .0 .0) (s .pre .0 .1) C),
       drawn-more (s .pre .0 .0 .narrow) (mod-lt (c .before .before .image-at .result) (s .pre .0 .0 .wide)) inside
           (λ q. omega (arith, l .inv .1 .upto, s .pre .0 .0 .few)) (l .inv .2) (c .join .ensures),
     )
@@ -123,7 +127,7 @@ returns c =
     let l = c .before .loop in
     let e : l .i ≡ 0 = omega arith in (
       chaining-all (s .pre .0 .0)
-          (subst (λ (z : ℕ). Chaining (s .args .n) (s .args .w) (orderOf (s .args .n) (s .args .images .now)) (s .args .next .now) z (l .next)
+          (subst (λ (z : ℕ). Chaining (s .args .n) (s .args .w) (p s) (s .args .next .now) z (l .next)
           (l .heads)) e (l .inv .1)),
       l .inv .2,
     )

@@ -3,14 +3,18 @@
 use mathlib.Core.Path.{_≡_, refl, sym, _∙_}
 use borrow.Author.Needs.{needs}
 use Rattle.laws.proofs.Choices.{ifLt-yes}
-use Rattle.tables.specs.Terms.{limitsOf}
+use Rattle.tables.specs.Terms.{Dims, limitsOf}
 use Rattle.tables.specs.Header.{headerWords, headerWidth, headerZeros}
 use Rattle.tables.specs.Format.{openOf}
 use Rattle.tables.specs.declared.Limits.the-variants.{Kept}
-use Rattle.tables.proofs.LimitTests.{limits-kept}
-use Rattle.tables.proofs.Opens.{shape-own, shape-words, shape-width, opened-zeros, opened-broken, opened-kept}
+use Rattle.tables.proofs.LimitTests.{limits-kept, limited-dims}
+use Rattle.tables.proofs.Opens.{shape-own, shape-words, shape-width, opened-zeros, opened-broken, opened-uneven, opened-kept}
 use Rattle.tables.proofs.opening.open.Statement.{statement}
 use Rattle.tables.proofs.opening.open.Tie as tie
+
+-- the header that was read, from the last test
+abbrev header : tie.Then3 → tie.After-field-at3
+header c = c .before .before .before .before .before
 
 -- what the header says
 words-read : (c : tie.After-field-at3) → c .before .before .field-at .result ≡ headerWords (c .before .before .before .before .before .args .file .now)
@@ -63,26 +67,40 @@ enum-told c = search needs
 enum-told-2 : tie.Need-enum-told-2
 enum-told-2 c = search needs
 
+rem-if3 : tie.Need-rem-if3
+rem-if3 c = limits-kept _ _ (kept c) .wide
+
+-- the dimensions of a set, where w divides n too
+dims : (c : tie.Then3)
+    → let d = header c in
+    Dims (d .before .before .field-at .result) (d .before .field-at2 .result)
+dims c = limited-dims (limits-kept _ _ (kept (c .before))) (c .if3 .taken)
+
 shape-of-requires : tie.Need-shape-of-requires
-shape-of-requires c κs = limits-kept _ _ (kept c)
+shape-of-requires c κs = dims c
 
 open-whole-requires : tie.Need-open-whole-requires
-open-whole-requires c κs = shape-own (limits-kept _ _ (kept (c .before))) (c .shape-of .ensures)
+open-whole-requires c κs = shape-own (dims (c .before)) (c .shape-of .ensures)
 
 returns-3 : tie.Need-returns-3
 returns-3 c =
+    let e = c .before .before in
+    let d = header e in
+    c .open-whole .ensures
+    ∙ rw (shape-words (dims e) (c .before .shape-of .ensures), shape-width (dims e) (c .before .shape-of .ensures))
+    (sym (opened-kept _ (words-read d) (width-read d) (zeros-read d) (d .before .before .before .if1 .left)
+    (e .before .before .before .before .if2 .left) (dims e)))
+
+returns-4 : tie.Need-returns-4
+returns-4 c =
     let d = c .before .before .before .before in
     sym (opened-broken _ (words-read d) (width-read d) (zeros-read d) (d .before .before .before .if1 .left) _
     (sym (c .before .before .test-limits .ensures) ∙ c .enum-told .given .1))
 
-returns-4 : tie.Need-returns-4
-returns-4 c =
-    let e = c .before .before in
-    let d = e .before .before .before .before in
-    let D = limits-kept _ _ (kept e) in
-    c .open-whole .ensures
-    ∙ rw (shape-words D (c .before .shape-of .ensures), shape-width D (c .before .shape-of .ensures))
-    (sym (opened-kept _ (words-read d) (width-read d) (zeros-read d) (d .before .before .before .if1 .left) (e .before .before .before .if2 .left) (kept e)))
+returns-5 : tie.Need-returns-5
+returns-5 c =
+    let d = c .before .before .before .before .before in
+    sym (opened-uneven _ (words-read d) (width-read d) (zeros-read d) (d .before .before .before .if1 .left) (kept (c .before)) (c .if3 .left))
 
 pub open-spec : {M : Type 1} → statement M
 open-spec =
@@ -98,7 +116,9 @@ open-spec =
     test-limits-requires
     enum-told
     enum-told-2
+    rem-if3
     shape-of-requires
     open-whole-requires
     returns-3
-    returns-4)
+    returns-4
+    returns-5)

@@ -21,17 +21,10 @@ returns-4 : tie.Need-returns-4
 unfolding limitsOf limitTest
 returns-4 c = search (needs, cases) depth 30
 
-rem-if5 : tie.Need-rem-if5
-rem-if5 c = search needs
-
 returns-5 : tie.Need-returns-5
 unfolding limitsOf limitTest
 returns-5 c = search (needs, cases) depth 30
 
-returns-6 : tie.Need-returns-6
-unfolding limitsOf limitTest
-returns-6 c = search (needs, cases) depth 30
-
 pub test-limits-spec : {M : Type 1} → statement M
 test-limits-spec =
-    tie.close (tie.spec returns returns-2 returns-3 returns-4 rem-if5 returns-5 returns-6)
+    tie.close (tie.spec returns returns-2 returns-3 returns-4 returns-5)
