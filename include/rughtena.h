@@ -8,6 +8,8 @@
  *
  * Stack memory, whatever n and w are (measured, with some room; docs/PERFORMANCE.md has the figures):
  *    rughtena_generate 20 KiB, rughtena_read 19 KiB, rughtena_set 7 KiB, rughtena_follow 1 KiB, rughtena_step 3 KiB
+ * A dynamic linker that looks memcpy and memset up when they are first called needs stack for that too, 3 KiB where it was measured; a program
+ * linked with -z now has none of it.
  *
  * Every call is proved to meet its contract for every argument, so a caller tests nothing first. What the caller owes is C's own
  * part: a pointer is not null, is aligned for its type and points to as many elements as the length beside it says, and memory that a

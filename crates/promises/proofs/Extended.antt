@@ -48,39 +48,37 @@ module _ (n w : ℕ) (images file scratch : List ℕ) (answer : Generation) (fil
 
 -- ---- the words by which a frame was extended
 
-module _ (n w : ℕ) (images file scratch : List ℕ) (answer : Generation) (file′ scratch′ : List ℕ)
-    (R : Generable n w images (length file) (length scratch)) (G : Generates n w images file scratch answer file′ scratch′) where
+module _ (n w : ℕ) where
   abbrev m : ℕ
   m = padded n w
 
-  module _ (out memory : List ℕ) (lent : Lent out memory m) (reply : Reply) (back : List ℕ)
-      (h : toldOf (readOf (take (fileLength m w) file′) out memory) ≡ told reply back) where
-    -- the images that were read are the extended order's
-    read-order : (i : ℕ) → i < m → getD back i 0 ≡ orderOf n images i
-    read-order i l =
-        let e : back ≡ overwrite m (orderOf n images) out = cc (demand-2 .generated n w images file scratch answer file′ scratch′ R G .1 out memory lent) in
-        ap (λ (xs : List ℕ). getD xs i 0) e ∙ getD-overwrite m (orderOf n images) out i 0 l
+  module _ (images file scratch : List ℕ) (answer : Generation) (file′ scratch′ : List ℕ)
+      (R : Generable n w images (length file) (length scratch)) (G : Generates n w images file scratch answer file′ scratch′) where
+    module _ (out memory : List ℕ) (lent : Lent out memory m) (reply : Reply) (back : List ℕ)
+        (h : toldOf (readOf (take (fileLength m w) file′) out memory) ≡ told reply back) where
+      -- the images that were read are the extended order's
+      read-order : (i : ℕ) → i < m → getD back i 0 ≡ orderOf n images i
+      read-order i l =
+          let e : back ≡ overwrite m (orderOf n images) out = cc (demand-2 .generated n w images file scratch answer file′ scratch′ R G .1 out memory lent) in
+          ap (λ (xs : List ℕ). getD xs i 0) e ∙ getD-overwrite m (orderOf n images) out i 0 l
 
-    read-back : ((i : ℕ) → i < n → getD back i 0 ≡ getD images i 0) × ((i : ℕ) → n ≤ i → i < m → getD back i 0 ≡ i)
-    read-back = (
-      λ i l. read-order i (omega (arith, padded-above n (R .limited .wide))) ∙ order-listed n images i l,
-      λ i l b. read-order i b ∙ order-kept n images i l,
-    )
+      read-back : ((i : ℕ) → i < n → getD back i 0 ≡ getD images i 0) × ((i : ℕ) → n ≤ i → i < m → getD back i 0 ≡ i)
+      read-back = (
+        λ i l. read-order i (omega (arith, padded-above n (R .limited .wide))) ∙ order-listed n images i l,
+        λ i l b. read-order i b ∙ order-kept n images i l,
+      )
 
-module _ (n w : ℕ) (images : List ℕ) (some : 0 < n) (wide : 0 < w) (s k word : ℕ) (row : List ℕ) where
-  abbrev size : ℕ
-  size = padded n w
+  module _ (images : List ℕ) (some : 0 < n) (wide : 0 < w) (s k word : ℕ) (row : List ℕ) where
+    abbrev place : ℕ
+    place = (s - 2 * cycles m w) * w + k
 
-  abbrev place : ℕ
-  place = (s - 2 * cycles size w) * w + k
-
-  place-stays : Given size w (orderOf n images) s row k word → n ≤ place % size → word ≡ getD row place 0
-  place-stays given behind =
-      let below : place % size < size = mod-lt place (omega (arith, padded-above n wide)) in
-      let there : place / size * size + orderOf n images (place % size) ≡ place =
-      ap (λ (i : ℕ). place / size * size + i) (order-kept n images (place % size) behind) ∙ div-add-mod' place size in
-      let same = given .only (place / size) (place % size) below there in
-      given .is ∙ ap (λ (i : ℕ). getD row i 0) (ap₂ (λ (f i : ℕ). f * size + i) (sym (same .0)) (sym (same .1)) ∙ div-add-mod' place size)
+    place-stays : Given m w (orderOf n images) s row k word → n ≤ place % m → word ≡ getD row place 0
+    place-stays given behind =
+        let below : place % m < m = mod-lt place (omega (arith, padded-above n wide)) in
+        let there : place / m * m + orderOf n images (place % m) ≡ place =
+        ap (λ (i : ℕ). place / m * m + i) (order-kept n images (place % m) behind) ∙ div-add-mod' place m in
+        let same = given .only (place / m) (place % m) below there in
+        given .is ∙ ap (λ (i : ℕ). getD row i 0) (ap₂ (λ (f i : ℕ). f * m + i) (sym (same .0)) (sym (same .1)) ∙ div-add-mod' place m)
 
 pub extending : Extending
 extending = record {
