@@ -7,7 +7,7 @@
  * system where those two are there.
  *
  * Stack memory, whatever n and w are (measured, with some room; docs/PERFORMANCE.md has the figures):
- *    rughtena_generate 20 KiB, rughtena_read 19 KiB, rughtena_set 7 KiB, rughtena_follow 1 KiB, rughtena_step 3 KiB
+ *    rughtena_generate 24 KiB, rughtena_read 19 KiB, rughtena_set 7 KiB, rughtena_follow 1 KiB, rughtena_step 3 KiB
  * A dynamic linker that looks memcpy and memset up when they are first called needs stack for that too, 3 KiB where it was measured; a program
  * linked with -z now has none of it.
  *
@@ -37,7 +37,7 @@ extern "C" {
 
 /* The version of this header. RUGHTENA_VERSION is one number, which grows with each version. */
 #define RUGHTENA_VERSION_MAJOR 0
-#define RUGHTENA_VERSION_MINOR 3
+#define RUGHTENA_VERSION_MINOR 4
 #define RUGHTENA_VERSION_PATCH 0
 #define RUGHTENA_VERSION (RUGHTENA_VERSION_MAJOR * 10000 + RUGHTENA_VERSION_MINOR * 100 + RUGHTENA_VERSION_PATCH)
 
@@ -173,7 +173,8 @@ typedef struct {
  * have RUGHTENA_FRAME(n, w) words; those from n on leave at their own places.
  * Lent: n images, read; RUGHTENA_SET_LENGTH(n, w) bytes for the file, written; RUGHTENA_GENERATE_SCRATCH(n, w) scratch words, of which the
  * first RUGHTENA_FRAME(n, w) are written.
- * Gives the length of the set; bytes behind it stay, and images behind the first n are not read. For every permutation a set is generated.
+ * Gives the length of the set; bytes behind it stay, and images behind the first n are not read. For every permutation a set is generated: of all
+ * sets that read as it, the one whose read addresses come first, line by line and bank by bank. So the same order gives the same bytes.
  * Refuses 1, 2, 3, 12, then 4 and 5 by rising i. For 4 an image is held to the n given, not to the padded n. */
 rughtena_answer rughtena_generate(size_t n, size_t w, const uint16_t *images, size_t images_len, uint8_t *file,
                                   size_t file_len, uint16_t *scratch, size_t scratch_len);

@@ -42,8 +42,8 @@ HOLDS(version_number, RUGHTENA_VERSION == RUGHTENA_VERSION_MAJOR * 10000 + RUGHT
 HOLDS(accepted_is_0, RUGHTENA_ACCEPTED == 0);
 HOLDS(last_number, RUGHTENA_SWITCH_VALUE == 15);
 
-#if RUGHTENA_VERSION < 300
-#error "RUGHTENA_VERSION is no number of the preprocessor, or below 0.3.0"
+#if RUGHTENA_VERSION < 400
+#error "RUGHTENA_VERSION is no number of the preprocessor, or below 0.4.0"
 #endif
 
 static uint16_t images[RUGHTENA_MOST_WORDS], read_images[RUGHTENA_MOST_WORDS];
@@ -149,9 +149,12 @@ static void numbers_of_sets(void) {
     same("header", 12, 3, RUGHTENA_HEADER, rughtena_read(file, length, read_images, 12, scratch, 24).number);
 }
 
-/* Faults of lines: the set of example 4 of document 01 with one bit or two flipped. */
+/* Faults of lines: the set of example 4 of document 01, which generating makes, with one bit or two flipped. */
 static void numbers_of_lines(void) {
     static const uint8_t example[12] = {0x00, 0x60, 0x30, 0x0c, 0x0c, 0xa8, 0x58, 0x2a, 0x2e, 0xfe, 0xd0, 0xe0};
+    static const uint16_t order[12] = {3, 7, 1, 2, 6, 0, 11, 9, 4, 10, 8, 5};
+    rughtena_generate(12, 3, order, 12, file, sizeof file, scratch, RUGHTENA_GENERATE_SCRATCH(12, 3));
+    same("bytes that differ", 12, 3, 0, memcmp(file, example, sizeof example) != 0);
     memcpy(file, example, sizeof example);
     same("accepted", 12, 3, RUGHTENA_ACCEPTED, rughtena_read(file, 12, read_images, 12, scratch, 24).number);
     file[3] = 0xcc;

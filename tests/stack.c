@@ -11,7 +11,7 @@
 
 enum { N = RUGHTENA_MOST_WORDS, W = RUGHTENA_MOST_WIDTH, STACK = 1 << 20, PATTERN = 0xa5 };
 
-static size_t width;
+static size_t count, width;
 static uint16_t images[N], read_images[N], scratch[RUGHTENA_GENERATE_SCRATCH(N, 1)], first[2 * N], second[2 * N], words[W], out[W];
 static uint8_t file[RUGHTENA_LONGEST_SET], values[RUGHTENA_MOST_SWITCHES];
 static size_t length;
@@ -19,7 +19,7 @@ static size_t length;
 static void nothing(void) {}
 
 static void generate(void) {
-    length = rughtena_generate(N, width, images, N, file, sizeof file, scratch, sizeof scratch / 2).value;
+    length = rughtena_generate(count, width, images, count, file, sizeof file, scratch, sizeof scratch / 2).value;
 }
 
 static void read_set(void) { rughtena_read(file, length, read_images, N, scratch, 2 * N); }
@@ -66,7 +66,19 @@ static size_t depth(measured call) {
     return STACK - untouched;
 }
 
+/* An order of two cycles in which every bank has words for two ports, and shares each of them with a neighbour. Of the first line the last bank
+ * is left over, and the search for its port goes through nearly all banks, from each to the next: the generator's deepest recursion. */
+static void chain_of_banks(void) {
+    uint16_t used[W] = {0};
+    count = 2 * W;
+    for (size_t i = 0; i < count; i++) {
+        const size_t bank = i % W, next = bank == 0 ? W - 1 - i / W : (2 * W - 2 - bank + i / W) % W;
+        images[i] = (uint16_t)(next + W * used[next]++);
+    }
+}
+
 int main(void) {
+    count = N;
     for (size_t i = 0; i < N; i++) {
         images[i] = (uint16_t)((i * 2731 + 17) % N);
     }
@@ -80,6 +92,8 @@ int main(void) {
         printf("| step | %zu | %zu |\n", width, depth(step) - thread);
     }
     const size_t thread = depth(nothing);
+    chain_of_banks();
+    printf("| generate | %d, a search through all banks | %zu |\n", W, depth(generate) - thread);
     printf("| set | %d | %zu |\n", W, depth(set) - thread);
     printf("| follow | %d | %zu |\n", W, depth(follow) - thread);
     return 0;

@@ -83,7 +83,8 @@ pub fn version() -> usize {
 }
 
 /// Generates a table set for the order of `n` words in which word i leaves at place `images[i]`, at width `w`, and gives its length in bytes,
-/// [`set_length(n, w)`](set_length). For every permutation there is one.
+/// [`set_length(n, w)`](set_length). For every permutation there is one. Of all sets that read as the order it is the one whose read addresses
+/// come first, line by line and bank by bank, so the same order gives the same bytes.
 ///
 /// The set and the frames that the card is fed with it have [`frame(n, w)`](frame) words; those from `n` on leave at their own places.
 ///

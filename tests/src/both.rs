@@ -38,8 +38,7 @@ fn said_value(said: Said) -> usize {
     }
 }
 
-/// Generating. Where a set is made its read lines are the generator's choice, so file and scratch are left to the caller; the call
-/// answers with the set.
+/// Generating; answers with the set. Its bytes are settled, and so is what stands behind them. Scratch words below the padded n are not.
 pub fn generate(
     n: usize,
     w: usize,
@@ -48,28 +47,32 @@ pub fn generate(
     scratch: &Lent<u16>,
 ) -> Result<Vec<u8>, Refusal> {
     let (mut file, mut scratch) = (file.clone(), scratch.clone());
-    let (mut other_file, mut other_scratch) = (file.clone(), scratch.clone());
+    let mut other_file = file.clone();
+    let expected = second::generate(n, w, images, other_file.part(), scratch.now());
     let answer = raw::generate(n, w, images, file.part(), scratch.part());
-    let expected = second::generate(n, w, images, other_file.part(), other_scratch.part());
     assert_eq!(answer, integers(expected));
     assert_eq!(answer.value(), expected);
+    assert_eq!(file, other_file, "n {n}, w {w}, images {images:?}");
     match expected {
         Err(refusal) => {
             file.untouched();
             scratch.untouched();
-            other_file.untouched();
-            other_scratch.untouched();
             Err(refusal)
         }
         Ok(length) => {
-            let written = Dims::padded(n, w).n;
             file.kept_from(length);
-            scratch.kept_from(written);
-            other_file.kept_from(length);
-            other_scratch.kept_from(written);
+            scratch.kept_from(Dims::padded(n, w).n);
             Ok(file.now()[..length].to_vec())
         }
     }
+}
+
+/// Generating with lent memory that holds anything and may be longer than needed.
+pub fn make(n: usize, w: usize, images: &[u16], random: &mut Random) -> Result<Vec<u8>, Refusal> {
+    let (more_bytes, more_words) = (random.below(4), random.below(4));
+    let file = Lent::bytes(random, Dims::padded(n, w).length + more_bytes);
+    let scratch = Lent::words(random, generate_scratch(n, w) + more_words);
+    generate(n, w, images, &file, &scratch)
 }
 
 /// Reading; answers with n, w and the images.
@@ -179,11 +182,15 @@ pub fn step(
     expected
 }
 
-/// A set for a random order, made by the second implementation.
+/// A set for a random order, its lines in a random order: reading and stepping take other sets than the first one as well.
 pub fn set_of(n: usize, w: usize, random: &mut Random) -> Vec<u8> {
     let order = random.order(n);
-    let mut file = vec![0; Dims::new(n, w).length];
-    let mut scratch = vec![0; generate_scratch(n, w)];
-    second::generate(n, w, &order, &mut file, &mut scratch).expect("a permutation is generated");
-    file
+    let first = second::first_reads(&order, w);
+    let reads: Vec<u16> = random
+        .order(n / w)
+        .iter()
+        .flat_map(|&line| &first[line as usize * w..][..w])
+        .copied()
+        .collect();
+    second::set_with(&order, w, &reads)
 }

@@ -1,6 +1,8 @@
-//! What the tests of the proved library share: a second implementation written from document 01 (`second`), the plain rule (`plain`), orders
-//! (`orders`) and lent memory between guards (`lent`).
+//! What the tests of the proved library share: a second implementation written from the documents (`second`), its generating written for speed
+//! (`fast`), the calls of library and second implementation side by side (`both`), the plain rule (`plain`), orders (`orders`) and lent memory
+//! between guards (`lent`).
 pub mod both;
+pub mod fast;
 pub mod lent;
 pub mod orders;
 pub mod plain;

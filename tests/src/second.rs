@@ -1,12 +1,12 @@
-//! A second implementation of the calls, in safe Rust, written from document 01 and, for widths that do not divide a frame, from document 02.
+//! A second implementation of the calls, in safe Rust, written from document 01 and, for widths that do not divide a frame and for the choice
+//! of the read lines, from document 02. Generating is slow and plain here; `fast` has a quicker one.
 use crate::{refuse, Clock, Refusal, Said};
 use std::borrow::Cow;
 
 /// The limits of document 01, written here once more: the second implementation shares nothing with the library.
 const MAX_WORDS: usize = 4096;
-const MAX_WIDTH: usize = 64;
+pub(crate) const MAX_WIDTH: usize = 64;
 const MAX_SWITCHES: usize = 321;
-const NONE: u16 = u16::MAX;
 
 /// What n and w settle.
 #[derive(Clone, Copy)]
@@ -93,7 +93,7 @@ impl<'a> Take<'a> {
 }
 
 /// Bits put into bytes, the most significant first.
-struct Put<'a> {
+pub(crate) struct Put<'a> {
     bytes: &'a mut [u8],
     next: usize,
     window: u64,
@@ -101,6 +101,20 @@ struct Put<'a> {
 }
 
 impl<'a> Put<'a> {
+    /// Begins a set with its header.
+    pub(crate) fn header(bytes: &'a mut [u8], dims: &Dims) -> Self {
+        let mut put = Put {
+            bytes,
+            next: 0,
+            window: 0,
+            held: 0,
+        };
+        put.bits(13, dims.n as u16);
+        put.bits(7, dims.w as u16);
+        put.bits(4, 0);
+        put
+    }
+
     /// The `count` lowest bits of the value, at most 16.
     #[inline]
     fn bits(&mut self, count: usize, value: u16) {
@@ -114,7 +128,7 @@ impl<'a> Put<'a> {
     }
 
     /// Zero bits up to a whole byte.
-    fn fill(&mut self) {
+    pub(crate) fn fill(&mut self) {
         if self.held > 0 {
             self.bits(8 - self.held, 0);
         }
@@ -209,102 +223,6 @@ fn route(bits: &[u8], lines: &mut [u8]) {
     }
 }
 
-/// Words by bank and port, and a matching of banks and ports.
-struct Schedule<'a> {
-    w: usize,
-    images: &'a [u16],
-    /// The first word of each bank and port.
-    head: [u16; MAX_WIDTH * MAX_WIDTH],
-    /// The word behind each word.
-    chain: &'a mut [u16],
-    /// The ports to which each bank has words left.
-    ports: [u64; MAX_WIDTH],
-    /// The ports that have no bank.
-    free: u64,
-    bank_of: [u8; MAX_WIDTH],
-    port_of: [u8; MAX_WIDTH],
-}
-
-const FREE: u8 = u8::MAX;
-
-impl<'a> Schedule<'a> {
-    fn new(n: usize, w: usize, images: &'a [u16], chain: &'a mut [u16]) -> Self {
-        let mut schedule = Schedule {
-            w,
-            images,
-            head: [NONE; MAX_WIDTH * MAX_WIDTH],
-            chain,
-            ports: [0; MAX_WIDTH],
-            free: u64::MAX,
-            bank_of: [0; MAX_WIDTH],
-            port_of: [FREE; MAX_WIDTH],
-        };
-        let mut bank = 0;
-        for i in 0..n {
-            let port = images[i] as usize % w;
-            let head = &mut schedule.head[bank * MAX_WIDTH + port];
-            schedule.chain[i] = *head;
-            *head = i as u16;
-            schedule.ports[bank] |= 1 << port;
-            bank = if bank + 1 == w { 0 } else { bank + 1 };
-        }
-        schedule
-    }
-
-    fn join(&mut self, bank: usize, port: usize) {
-        self.bank_of[port] = bank as u8;
-        self.port_of[bank] = port as u8;
-    }
-
-    /// Gives the bank a port: a free one where it has one, else that of a bank which finds another.
-    fn augment(&mut self, bank: usize, unseen: &mut u64) -> bool {
-        let vacant = self.ports[bank] & self.free;
-        if vacant != 0 {
-            let port = vacant.trailing_zeros() as usize;
-            self.free &= !(1 << port);
-            self.join(bank, port);
-            return true;
-        }
-        loop {
-            let open = self.ports[bank] & *unseen;
-            if open == 0 {
-                return false;
-            }
-            let port = open.trailing_zeros() as usize;
-            *unseen &= !(1 << port);
-            if self.augment(self.bank_of[port] as usize, unseen) {
-                self.join(bank, port);
-                return true;
-            }
-        }
-    }
-
-    /// Every bank gets a port to which it has a word left.
-    fn complete(&mut self) {
-        for bank in 0..self.w {
-            if self.port_of[bank] == FREE {
-                let mut unseen = u64::MAX;
-                assert!(self.augment(bank, &mut unseen));
-            }
-        }
-    }
-
-    /// The bank's word for its port, taken out.
-    fn take(&mut self, bank: usize) -> usize {
-        let port = self.port_of[bank] as usize;
-        let head = &mut self.head[bank * MAX_WIDTH + port];
-        let word = *head as usize;
-        *head = self.chain[word];
-        if *head == NONE {
-            self.ports[bank] &= !(1 << port);
-            self.port_of[bank] = FREE;
-            self.free |= 1 << port;
-        }
-        debug_assert_eq!(self.images[word] as usize % self.w, port);
-        word
-    }
-}
-
 /// The order that the images give, with fixed points up to the next multiple of w. One that needs none is not copied, so that its set can be
 /// timed.
 pub fn extended(images: &[u16], w: usize) -> Cow<'_, [u16]> {
@@ -317,13 +235,133 @@ pub fn extended(images: &[u16], w: usize) -> Cow<'_, [u16]> {
     Cow::Owned(order)
 }
 
-pub fn generate(
+/// Whether each bank can get a port of its own among the open ones. A bank's ports are given as bits.
+fn matched(ports: &[u64], open: u64) -> bool {
+    let mut holder = [None; MAX_WIDTH];
+    (0..ports.len()).all(|bank| {
+        let mut untried = open;
+        seat(bank, ports, &mut untried, &mut holder)
+    })
+}
+
+/// Gives the bank a port: one that no bank holds, or one whose bank finds another.
+fn seat(
+    bank: usize,
+    ports: &[u64],
+    untried: &mut u64,
+    holder: &mut [Option<usize>; MAX_WIDTH],
+) -> bool {
+    while ports[bank] & *untried != 0 {
+        let port = (ports[bank] & *untried).trailing_zeros() as usize;
+        *untried &= !(1 << port);
+        if holder[port].is_none_or(|other| seat(other, ports, untried, holder)) {
+            holder[port] = Some(bank);
+            return true;
+        }
+    }
+    false
+}
+
+/// The read addresses of the first set of an order, line by line and bank by bank. w divides the order.
+///
+/// A bank takes the lowest address that it has not read yet, whose port is free in the line, and with which the later banks of the line can
+/// still all be matched to ports. No look at later lines is needed: unread words are the edges of a graph of banks and ports, and each bank
+/// and each port has as many of them as lines are left. A line takes a perfect matching out of this regular graph and leaves a regular one,
+/// which has a perfect matching too. So whatever a line takes, the next one can be made.
+pub fn first_reads(order: &[u16], w: usize) -> Vec<u16> {
+    let c = order.len() / w;
+    let port: Vec<usize> = order.iter().map(|&place| place as usize % w).collect();
+    let mut unread = vec![true; order.len()];
+    let mut reads = Vec::new();
+    for _ in 0..c {
+        let mut ports = [0; MAX_WIDTH];
+        for word in (0..order.len()).filter(|&word| unread[word]) {
+            ports[word % w] |= 1 << port[word];
+        }
+        let mut free = u64::MAX;
+        for bank in 0..w {
+            let address = (0..c)
+                .find(|address| {
+                    let word = address * w + bank;
+                    let chosen = 1 << port[word];
+                    unread[word]
+                        && free & chosen != 0
+                        && matched(&ports[bank + 1..w], free & !chosen)
+                })
+                .expect("a regular graph has a perfect matching");
+            unread[address * w + bank] = false;
+            free &= !(1 << port[address * w + bank]);
+            reads.push(address as u16);
+        }
+    }
+    reads
+}
+
+/// What the reads of a line settle: the ports of its banks and the banks of its ports, the rule's switch bits and the writes.
+pub(crate) struct Settled {
+    image: [u8; MAX_WIDTH],
+    source: [u8; MAX_WIDTH],
+    bits: [u8; MAX_SWITCHES],
+    writes: [u16; MAX_WIDTH],
+}
+
+impl Settled {
+    pub(crate) fn new() -> Settled {
+        let straight = std::array::from_fn(|line| line as u8);
+        Settled {
+            image: straight,
+            source: straight,
+            bits: [0; MAX_SWITCHES],
+            writes: [0; MAX_WIDTH],
+        }
+    }
+
+    /// Puts the line that reads these addresses.
+    #[inline(always)]
+    pub(crate) fn put(&mut self, put: &mut Put, dims: &Dims, order: &[u16], reads: &[u16]) {
+        for (bank, &address) in reads.iter().enumerate() {
+            put.bits(dims.a, address);
+            let place = order[address as usize * dims.w + bank];
+            let port = place % dims.w as u16;
+            self.image[bank] = port as u8;
+            self.source[port as usize] = bank as u8;
+            self.writes[port as usize] = place / dims.w as u16;
+        }
+        set_network(
+            &self.image[..dims.v],
+            &self.source[..dims.v],
+            &mut self.bits[..dims.switches],
+        );
+        for &bit in &self.bits[..dims.switches] {
+            put.bits(1, bit as u16);
+        }
+        for &address in &self.writes[..dims.w] {
+            put.bits(dims.a, address);
+        }
+    }
+}
+
+/// The set of an order that reads these addresses, line by line and bank by bank. w divides the order.
+pub fn set_with(order: &[u16], w: usize, reads: &[u16]) -> Vec<u8> {
+    let dims = Dims::new(order.len(), w);
+    let mut file = vec![0; dims.length];
+    let mut put = Put::header(&mut file, &dims);
+    let mut settled = Settled::new();
+    for line in reads.chunks_exact(w) {
+        settled.put(&mut put, &dims, order, line);
+    }
+    put.fill();
+    file
+}
+
+/// What the set is of and the order extended, or the refusal.
+pub(crate) fn ordered<'a>(
     n: usize,
     w: usize,
-    images: &[u16],
-    file: &mut [u8],
-    scratch: &mut [u16],
-) -> Result<usize, Refusal> {
+    images: &'a [u16],
+    file: &[u8],
+    scratch: &[u16],
+) -> Result<(Dims, Cow<'a, [u16]>), Refusal> {
     if n == 0 || n > MAX_WORDS {
         return refuse(1, 0);
     }
@@ -338,49 +376,20 @@ pub fn generate(
         return refuse(12, 0);
     }
     check_images(images, n)?;
-    let order = extended(&images[..n], w);
+    Ok((dims, extended(&images[..n], w)))
+}
 
-    let mut put = Put {
-        bytes: file,
-        next: 0,
-        window: 0,
-        held: 0,
-    };
-    put.bits(13, dims.n as u16);
-    put.bits(7, w as u16);
-    put.bits(4, 0);
-    let mut schedule = Schedule::new(dims.n, w, &order, &mut scratch[..dims.n]);
-    let mut bits = [0u8; MAX_SWITCHES];
-    let mut image = [0u8; MAX_WIDTH];
-    let mut source = [0u8; MAX_WIDTH];
-    for line in 0..MAX_WIDTH {
-        image[line] = line as u8;
-        source[line] = line as u8;
-    }
-    let mut writes = [0u16; MAX_WIDTH];
-    for _ in 0..dims.c {
-        schedule.complete();
-        for bank in 0..w {
-            let port = schedule.port_of[bank];
-            let word = schedule.take(bank);
-            put.bits(dims.a, (word / w) as u16);
-            image[bank] = port;
-            source[port as usize] = bank as u8;
-            writes[port as usize] = order[word] / w as u16;
-        }
-        set_network(
-            &image[..dims.v],
-            &source[..dims.v],
-            &mut bits[..dims.switches],
-        );
-        for &bit in &bits[..dims.switches] {
-            put.bits(1, bit as u16);
-        }
-        for &address in &writes[..w] {
-            put.bits(dims.a, address);
-        }
-    }
-    put.fill();
+/// Scratch is asked for and not used.
+pub fn generate(
+    n: usize,
+    w: usize,
+    images: &[u16],
+    file: &mut [u8],
+    scratch: &[u16],
+) -> Result<usize, Refusal> {
+    let (dims, order) = ordered(n, w, images, file, scratch)?;
+    let set = set_with(&order, w, &first_reads(&order, w));
+    file[..dims.length].copy_from_slice(&set);
     Ok(dims.length)
 }
 

@@ -1,15 +1,9 @@
 //! Generating, beside the second implementation: what a set has to be, every refusal in its order, and no word altered that is not named.
+use rughtena_tests::both::make;
 use rughtena_tests::lent::Lent;
 use rughtena_tests::orders::{bit_reversal, every_width, identity, reversal, stride, Random};
 use rughtena_tests::second::{extended, inspect, Dims};
-use rughtena_tests::{both, generate_scratch, refuse, second, Refusal, MOST_WIDTH, MOST_WORDS};
-
-fn make(n: usize, w: usize, images: &[u16], random: &mut Random) -> Result<Vec<u8>, Refusal> {
-    let (more_bytes, more_words) = (random.below(4), random.below(4));
-    let file = Lent::bytes(random, Dims::padded(n, w).length + more_bytes);
-    let scratch = Lent::words(random, generate_scratch(n, w) + more_words);
-    both::generate(n, w, images, &file, &scratch)
-}
+use rughtena_tests::{both, generate_scratch, refuse, second, MOST_WIDTH, MOST_WORDS};
 
 /// The set is accepted, reads as the extended order, and has the rule's switch bits and the writes of that order in each line.
 fn is_set_of(w: usize, order: &[u16], set: &[u8], random: &mut Random) {
@@ -161,7 +155,7 @@ fn extended_orders() {
     }
 }
 
-/// A set of one cycle has no addresses, so that all its bytes are settled.
+/// Sets of one cycle, which have no addresses.
 #[test]
 fn extended_orders_of_one_cycle() {
     let mut random = Random(28);

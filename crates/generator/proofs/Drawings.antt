@@ -1,5 +1,5 @@
--- The graph of the heads, word by word: each word that is chained brings the edge of its bank and port. From the graph, the heads of all
--- words and free ports, the generator starts.
+-- The graph of the heads, word by word: each word that is chained brings the edge of its bank and port. From the graph and the heads of all
+-- words the generator starts.
 use Prim.Native.Nat.{ℕ, _+_, _*_, _<_, _≤_}
 use mathlib.Core.Path.{_≡_, _∙_}
 use mathlib.Core.List.{List}
@@ -11,12 +11,10 @@ use Rattle.limits.specs.Limits.{mostWidth, noWord}
 use Rattle.laws.specs.Permutation.{Permutes}
 use Rattle.matching.specs.Graph.{Edge, Joined}
 use Rattle.matching.proofs.Graphs.{edge-none}
-use Rattle.matching.proofs.Matchings.{matches-free}
 use Rattle.tables.specs.Terms.{Dims}
 use Rattle.generator.specs.inner.Schedule.{headAt, Linked, Drawn, Scheduled, headCount}
 use Rattle.generator.proofs.Heads.{head-cases}
 use Rattle.generator.proofs.Counting.{first-banks, first-ports}
-use Rattle.matching.specs.Matching.{unowned}
 
 -- no word is there yet, and no edge
 pub drawn-none : {w : ℕ} → w ≤ mostWidth → Drawn w (replicate headCount noWord) (replicate mostWidth 0)
@@ -37,21 +35,20 @@ drawn-more {w} {b} {k} {i} {heads} {edges} {edges′} few lk inside some G J = r
       (λ _. some) (λ other e. ⊎-elim (λ f. G .cut d j l m f) (λ q. absurd (other (q .0) (q .1))) (J .only d j e));
 }
 
--- before the first line: all words are left, and all ports free
-pub scheduled-start : {n w : ℕ} {p : ℕ → ℕ} {lent next heads edges : List ℕ} (owner : List ℕ) (reads : ℕ → ℕ → ℕ) → Dims n w → Permutes n p
-    → Linked n w p lent next heads → Drawn w heads edges → length owner ≡ mostWidth → ((k : ℕ) → k < w → getD owner k 0 ≡ unowned)
-    → Scheduled n w p reads 0 heads edges owner
-scheduled-start {n} {heads = heads} owner reads D P L G long free = record {
+-- before the first line: all words are left
+pub scheduled-start : {n w : ℕ} {p : ℕ → ℕ} {lent next heads edges : List ℕ} (reads : ℕ → ℕ → ℕ) → Dims n w → Permutes n p
+    → Linked n w p lent next heads → Drawn w heads edges → Scheduled n w p reads 0 heads edges
+scheduled-start {n} {heads = heads} reads D P L G = record {
   headed = L .headed;
   edges-long = G .long;
-  owner-long = long;
   joined = λ b k l m q. G .joined b k l m (λ e. omega (arith, D .few));
   cut = λ b k l m e. elim (decLt (headAt heads b k) n) [ yes q ↦ q | no q ↦ absurd (G .cut b k l m e (L .headed .limit b k l m q)) ];
-  matches = matches-free (D .narrow) free;
   banks = λ b l. omega (arith, first-banks heads D P (L .lowest) b l);
   ports = λ k l. omega (arith, first-ports heads D P (L .lowest) k l);
   below = λ s b l. absurd (omega arith);
   sent = λ s b l. absurd (omega arith);
+  used = λ i l q. absurd (omega (arith, L .lowest i l));
   once = λ b l i j m. absurd (omega arith);
   apart = λ s l. absurd (omega arith);
+  first = λ r R s b l. absurd (omega arith);
 }

@@ -68,8 +68,8 @@ module _ {w : ℕ} (words : List ℕ) (B : Permutes w (λ k. getD words k 0 % w)
           line-apart (inverse w f k) (getD words k 0 % w) (q .0) (B .below k l) (q .1 ∙ sym (line-port k l))
 
 -- the words of a line that was taken
-module _ {n w : ℕ} {p : ℕ → ℕ} {reads : ℕ → ℕ → ℕ} {t : ℕ} {words heads edges owner : List ℕ}
-    (T : Took n w p reads t words heads edges owner) where
+module _ {n w : ℕ} {p : ℕ → ℕ} {reads : ℕ → ℕ → ℕ} {t : ℕ} {words heads edges : List ℕ}
+    (T : Took n w p reads t words heads edges) where
   pub took-word : (k : ℕ) → k < w → wordOf w (extended reads t (addressOf w words)) t (getD words k 0 % w) ≡ getD words k 0
   took-word = line-word words (T .banked) reads t
 

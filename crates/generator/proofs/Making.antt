@@ -22,20 +22,21 @@ use Rattle.setting.proofs.Fronts.{front-inverses}
 use Rattle.tables.specs.Header.{headerOf, headerBits}
 use Rattle.tables.specs.Terms.{Dims, cycles, depth, lineBits, fileLength}
 use Rattle.tables.specs.Format.{lineAt}
-use Rattle.tables.specs.Generated.{Schedule, wordOf, portOf, writeOf, setBits}
+use Rattle.tables.specs.First.{First}
+use Rattle.tables.specs.Generated.{wordOf, portOf, writeOf, setBits}
 use Rattle.tables.proofs.Dims.{address-below, depth-reaches, lines-few, fileLength-reaches}
 use Rattle.tables.proofs.Prefix.{setBits-prefix}
 use Rattle.tables.proofs.Written.{Written, written-ext, written-all}
 use Rattle.packing.specs.Packing.{putLine, putFilling}
 use Rattle.packing.specs.inner.Plans.{Planned, Ready}
 use Rattle.packing.proofs.Putting.{header-written, line-written, filling-written}
-use Rattle.generator.proofs.Taking.{scheduled-schedule}
+use Rattle.generator.proofs.Taking.{scheduled-first}
 use Rattle.generator.specs.inner.Schedule.{Scheduled, Took, addressOf, extended}
 use Rattle.generator.specs.Generating.{Made}
 use Rattle.generator.proofs.Extensions.{extended-same, extended-here, bank-word, address-word, took-word, took-port, took-bank}
 
-module _ {n w : ℕ} {p : ℕ → ℕ} {reads : ℕ → ℕ → ℕ} {t : ℕ} {words heads edges owner addresses forward back writes : List ℕ}
-    (D : Dims n w) (P : Permutes n p) (T : Took n w p reads t words heads edges owner)
+module _ {n w : ℕ} {p : ℕ → ℕ} {reads : ℕ → ℕ → ℕ} {t : ℕ} {words heads edges addresses forward back writes : List ℕ}
+    (D : Dims n w) (P : Permutes n p) (T : Took n w p reads t words heads edges)
     (L : Planned w p words w addresses forward back writes) where
   abbrev more : ℕ → ℕ → ℕ
   more = extended reads t (addressOf w words)
@@ -150,18 +151,18 @@ pub set-begun : (n w : ℕ) {before mid : List ℕ} (p : ℕ → ℕ) (reads : �
 set-begun n w {before} p reads H = begun (header-written n w p reads before H)
 
 -- and with all lines and the filling it is made
-pub set-made : {n w : ℕ} {p : ℕ → ℕ} {before mid file heads edges owner : List ℕ} {reads : ℕ → ℕ → ℕ} (t : ℕ) → t ≡ cycles n w → Dims n w
+pub set-made : {n w : ℕ} {p : ℕ → ℕ} {before mid file heads edges : List ℕ} {reads : ℕ → ℕ → ℕ} (t : ℕ) → t ≡ cycles n w → Dims n w
     → Permutes n p → Bytes before → fileLength n w ≤ length before → Written (headerOf n w) before mid (headerBits n)
-    → Scheduled n w p reads t heads edges owner → Written (setBits n w p reads) mid file (lineAt n w t)
+    → Scheduled n w p reads t heads edges → Written (setBits n w p reads) mid file (lineAt n w t)
     → Made n w p before (putFilling n w file)
 unfolding lineAt
 set-made {n} {w} {p} {before} {reads = reads} t all D P B fits H S L =
-    let schedule : Schedule n w p reads = scheduled-schedule (rw all at S) in
+    let first : First n w p reads = scheduled-first (rw all at S) in
     record {
       reads = reads;
-      schedule = schedule;
+      first = first;
       written =
-          written-all D P schedule B fits
+          written-all D P (first .schedule) B fits
           (filling-written n w p reads before fits (over (header-written n w p reads before H) (rw all at L) (omega arith)));
     }
 

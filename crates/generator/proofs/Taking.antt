@@ -1,45 +1,54 @@
 -- A line more. What is left is regular, so the matching is completed; the line takes one word of each bank and each port, and moves their
--- heads past it, so that no later line takes it again. After all lines this is a schedule.
-use Prim.Native.Nat.{ℕ, _+_, _-_, _*_, _%_, _<_, _≤_}
-use mathlib.Core.Path.{_≡_, sym, ap, ap₂, subst, _∙_}
+-- heads past it, so that no later line takes it again. And it is the first: a schedule with the same reads before this line reads, from each
+-- bank, a word that is left, so its ports are a perfect matching of what is left, and its words are no lower than the heads of these ports.
+-- After all lines this is a schedule, and no other one has earlier reads.
+use Prim.Native.Nat.{ℕ, _+_, _-_, _*_, _/_, _%_, _<_, _≤_}
+use mathlib.Core.Path.{_≡_, refl, sym, ap, ap₂, subst, _∙_}
 use mathlib.Core.List.{List}
-use mathlib.Core.Logic.{⊎-elim}
+use mathlib.Core.Logic.{inl, inr, ⊎-elim}
 use native.Mathlib.Omega.{arith}
 use native.Mathlib.Decide.{ℕ-discrete, decLt}
-use native.Mathlib.Nat.{mod-lt}
+use native.Mathlib.Nat.{mod-lt, mul-le-mul-right, suc-mul}
+use lib.Arith.{digits-mod, digits-div}
 use lib.ListN.{length, getD}
 use Rattle.limits.specs.Limits.{mostWidth, noWord, mostWords}
-use Rattle.laws.specs.Sum.{sum, is, hits}
+use Rattle.laws.specs.Sum.{sum}
 use Rattle.laws.specs.Permutation.{Injective, Permutes}
-use Rattle.laws.proofs.Sums.{is-ne, sum-le, sum-change}
+use Rattle.laws.proofs.Sums.{sum-change}
 use Rattle.laws.proofs.Permutations.{permutes-ext}
 use Rattle.matching.specs.Graph.{Edge}
-use Rattle.matching.specs.Matching.{Owned, ports, Matches, Perfect, Completes}
+use Rattle.matching.specs.Matching.{Perfect, Completes}
+use Rattle.matching.specs.First.{Assigns, Follows, Foremost}
 use Rattle.matching.specs.declared.Completed.{Completed}
 use Rattle.matching.specs.declared.Completed.the-variants.{Matched, Stuck}
 use Rattle.matching.proofs.Hall.{regular-never-stuck}
-use Rattle.matching.proofs.Matchings.{perfect-onto, perfect-ports}
+use Rattle.matching.proofs.Matchings.{perfect-onto}
 use Rattle.tables.specs.Terms.{cycles}
 use Rattle.tables.specs.Generated.{wordOf, portOf, Schedule}
-use Rattle.tables.proofs.Dims.{address-below}
-use Rattle.generator.specs.inner.Schedule.{headAt, left, Headed, Scheduled, addressOf, extended, Took, Takeable, Takes, Due}
+use Rattle.tables.specs.First.{First}
+use Rattle.tables.proofs.Dims.{address-below, word-below}
+use Rattle.generator.specs.inner.Schedule.{headAt, left, Headed, Agree, Scheduled, addressOf, extended, Took, Takeable, Takes, Due}
 use Rattle.generator.proofs.Counting.{left-same, left-positive, left-taken, next-above}
 use Rattle.generator.proofs.Extensions.{extended-same, extended-here, word-same, port-same, bank-word, address-word, line-word, line-port, line-apart}
 
-module _ {n w : ℕ} {p : ℕ → ℕ} {reads : ℕ → ℕ → ℕ} {t : ℕ} {next heads edges owner : List ℕ} (U : Due n w p reads t next heads edges owner) where
-  S : Scheduled n w p reads t heads edges owner
+module _ {n w : ℕ} {p : ℕ → ℕ} {reads : ℕ → ℕ → ℕ} {t : ℕ} {next heads edges : List ℕ} (U : Due n w p reads t next heads edges) where
+  S : Scheduled n w p reads t heads edges
   S = U .scheduled
 
   -- no bank is stuck
-  pub due-perfect : {owner′ : List ℕ} (answer : Completed) → Completes (Edge edges) w owner owner′ answer → Perfect (Edge edges) w owner′
-  due-perfect Matched C = C .outcome
-  due-perfect (Stuck bank reached) C =
+  pub due-foremost : {own : List ℕ} (answer : Completed) → Completes (Edge edges) w (Foremost (Edge edges) w heads) own answer
+      → Foremost (Edge edges) w heads own
+  due-foremost Matched C = C .outcome
+  due-foremost (Stuck bank reached) C =
       absurd
       (regular-never-stuck (C .outcome .violator) (left n w p heads) (cycles n w - t) (omega (arith, U .more))
       (λ b l. omega (arith, S .banks b l)) (λ k l. omega (arith, S .ports k l))
       (λ b k l m q. S .joined b k l m (left-positive n w p heads b k q)))
 
-  module _ {own : List ℕ} (P : Perfect (Edge edges) w own) where
+  module _ {own : List ℕ} (F : Foremost (Edge edges) w heads own) where
+    P : Perfect (Edge edges) w own
+    P = F .perfect
+
     -- the head of each port and its owner is a word
     head-inside : (k : ℕ) → k < w → headAt heads (getD own k 0) k < n
     head-inside k l = S .cut (getD own k 0) k (P .permutes .below k l) l (P .along k l)
@@ -55,7 +64,7 @@ module _ {n w : ℕ} {p : ℕ → ℕ} {reads : ℕ → ℕ → ℕ} {t : ℕ} {
       inside = λ k l. omega (arith, head-inside k l, U .lent);
     }
 
-    module _ {words heads′ edges′ owner′ : List ℕ} (T : Takes next heads edges own w words heads′ edges′ owner′) where
+    module _ {words heads′ edges′ : List ℕ} (T : Takes next heads edges own w words heads′ edges′) where
       few : n ≤ mostWords
       few = U .dims .few
 
@@ -112,30 +121,6 @@ module _ {n w : ℕ} {p : ℕ → ℕ} {reads : ℕ → ℕ → ℕ} {t : ℕ} {
       cut : (b k : ℕ) → b < w → k < w → Edge edges′ b k → headAt heads′ b k < n
       cut b k l m = heads-cases (λ d x. Edge edges′ d k → x < n) b k m
           (λ e. next-limit k m (λ z. T .gone k m z e)) (λ ne e. S .cut b k l m (T .only b k e))
-
-      matches : Matches (Edge edges′) w owner′
-      unfolding hits
-      matches = record {
-        owns = record {
-          below = λ k l h. rw (held k l h) (P .permutes .below k l);
-          along = λ k l h. rw (held k l h)
-              (⊎-elim (λ e. e) (λ z. absurd (h (T .freed k l (z .2)))) (T .kept (getD own k 0) k (P .along k l)));
-        };
-        once = λ b l. omega (
-          arith,
-          perfect-ports P b l,
-          sum-le w (λ k. is (getD owner′ k 0) b) (λ k. is (getD own k 0) b) (fewer b l),
-        );
-      }
-        where
-          held : (k : ℕ) → k < w → Owned owner′ k → getD owner′ k 0 ≡ getD own k 0
-          held k l h = T .same k (λ _ e. h (T .freed k l e))
-
-          fewer : (b : ℕ) → b < w → (k : ℕ) → k < w → is (getD owner′ k 0) b ≤ is (getD own k 0) b
-          fewer b l k m = elim (ℕ-discrete (getD next (getD words k 0) 0) noWord) [
-            | yes e ↦ rw (T .freed k m e) (omega (arith, is-ne mostWidth b (λ z. omega (arith, U .dims .narrow))))
-            | no ne ↦ rw (T .same k (λ _ e. ne e)) (omega arith)
-          ]
 
       -- one word less from each owner to its port, and as many as before elsewhere
       less : (k : ℕ) → k < w → left n w p heads (getD own k 0) k ≡ left n w p heads′ (getD own k 0) k + 1
@@ -236,7 +221,107 @@ module _ {n w : ℕ} {p : ℕ → ℕ} {reads : ℕ → ℕ → ℕ} {t : ℕ} {
             (ap (λ (x : ℕ). portOf w p reads′ x b) (sym z) ∙ e ∙ ap (λ (x : ℕ). portOf w p reads′ x d) z)
       ]
 
-      pub due-took : Took n w p reads t words heads′ edges′ owner′
+      -- the words below the heads were read: before, or in this line
+      used : (i : ℕ) → i < n → i < headAt heads′ (i % w) (p i % w) → (s : ℕ) × (s < t + 1) × (reads′ s (i % w) ≡ i / w)
+      used i l q = elim (decLt i (headAt heads (i % w) (p i % w))) [
+        | yes m ↦ let r = S .used i l m in (r .0, omega (arith, r .1), extended-same reads t (addressOf w words) (r .0) (i % w) (earlier (r .0) (r .1)) ∙ r .2)
+        | no m ↦ now (p i % w) (mod-lt (p i) (U .dims .wide)) refl m q
+      ]
+        where
+          now : (k : ℕ) → k < w → k ≡ p i % w → (i < headAt heads (i % w) k → ⊥) → i < headAt heads′ (i % w) k
+              → (s : ℕ) × (s < t + 1) × (reads′ s (i % w) ≡ i / w)
+          now k lk e m =
+              heads-cases (λ b x. i % w ≡ b → i < x → (s : ℕ) × (s < t + 1) × (reads′ s (i % w) ≡ i / w)) (i % w) k lk here
+              (λ _ _ y. absurd (m y)) refl
+            where
+              here : i % w ≡ getD own k 0 → i < getD next (getD words k 0) 0 → (s : ℕ) × (s < t + 1) × (reads′ s (i % w) ≡ i / w)
+              here b y = (
+                t,
+                omega arith,
+                extended-here reads t (addressOf w words) (i % w) ∙ ap (addressOf w words) bank
+                    ∙ address-word words banked k lk ∙ ap (λ (z : ℕ). z / w) word,
+              )
+                where
+                  bank : i % w ≡ getD words k 0 % w
+                  bank = b ∙ sym (at k lk .0)
+
+                  low : getD words k 0 ≤ i
+                  low = omega (arith, T .word k lk, ap (λ (z : ℕ). headAt heads z k) b, m)
+
+                  word : getD words k 0 ≡ i
+                  word = elim (decLt (getD words k 0) i) [
+                    | yes lt ↦ absurd (omega (arith, y, U .chained .between (getD words k 0) i lt l (sym bank, at k lk .1 ∙ e)))
+                    | no ge ↦ omega (arith, low)
+                  ]
+
+      -- ---- the line is the first one
+
+      module _ (r : ℕ → ℕ → ℕ) (R : Schedule n w p r) (b : ℕ) (l : b < w) (A : Agree w r reads′ t b) where
+        -- a schedule's word of this line is left
+        word-left : (d : ℕ) → d < w → headAt heads d (portOf w p r t d) ≤ wordOf w r t d
+        unfolding portOf wordOf
+        word-left d m = elim (decLt (wordOf w r t d) (headAt heads d (portOf w p r t d))) [
+          | no q ↦ omega arith
+          | yes q ↦
+              let i : ℕ = r t d * w + d in
+              let bank : i % w ≡ d = digits-mod (r t d) m in
+              let z = S .used i (word-below (U .dims) (r t d) d (R .below t d (U .more) m) m) (rw bank q) in
+              let then : r (z .0) d ≡ reads (z .0) d =
+              A (z .0) d m (inl (z .1)) ∙ extended-same reads t (addressOf w words) (z .0) d (earlier (z .0) (z .1)) in
+              let again : r (z .0) d ≡ r t d =
+              then ∙ ap (reads (z .0)) (sym bank) ∙ z .2 ∙ digits-div (r t d) m in
+              absurd (earlier (z .0) (z .1) (R .once d m (z .0) t (omega (arith, z .1, U .more)) (U .more) again))
+        ]
+
+        -- so its ports are a perfect matching of what is left
+        assigns : Assigns (Edge edges) w (portOf w p r t)
+        unfolding portOf wordOf
+        assigns = record {
+          below = λ d m. mod-lt (p (r t d * w + d)) (U .dims .wide);
+          along = λ d m. S .joined d (portOf w p r t d) m (mod-lt (p (r t d * w + d)) (U .dims .wide))
+              (omega (arith, word-left d m, word-below (U .dims) (r t d) d (R .below t d (U .more) m) m));
+          apart = R .ports t (U .more);
+        }
+
+        -- which leaves the banks below b their ports
+        follows : Follows (portOf w p r t) own b
+        unfolding portOf wordOf
+        follows d m =
+            let k = bank-word words banked d (omega arith) in
+            let same : portOf w p r t d ≡ portOf w p reads′ t d = ap (λ (x : ℕ). p (x * w + d) % w) (A t d (omega arith) (inr (refl, m))) in
+            let port : portOf w p reads′ t d ≡ k .0 =
+            ap (portOf w p reads′ t) (sym (k .2)) ∙ line-port words banked reads t p (λ j y. at j y .1) (k .0) (k .1) in
+            ap (λ (x : ℕ). getD own x 0) (same ∙ port) ∙ sym (at (k .0) (k .1) .0) ∙ k .2
+
+        no-lower : reads′ t b ≤ r t b
+        unfolding wordOf
+        no-lower =
+            let k = bank-word words banked b l in
+            let owner : getD own (k .0) 0 ≡ b = sym (at (k .0) (k .1) .0) ∙ k .2 in
+            let word : wordOf w reads′ t b ≡ headAt heads b (k .0) =
+            ap (wordOf w reads′ t) (sym (k .2)) ∙ line-word words banked reads t (k .0) (k .1)
+            ∙ T .word (k .0) (k .1) ∙ ap (λ (x : ℕ). headAt heads x (k .0)) owner in
+            let least : headAt heads b (k .0) ≤ headAt heads b (portOf w p r t b) =
+            subst (λ (x : ℕ). headAt heads x (k .0) ≤ headAt heads x (portOf w p r t x)) owner
+            (F .least (k .0) (k .1) (portOf w p r t) assigns (subst (λ (x : ℕ). Follows (portOf w p r t) own x) (sym owner) follows)) in
+            elim (decLt (r t b) (reads′ t b)) [
+              | no q ↦ omega arith
+              | yes q ↦ absurd (omega (arith, word, least, word-left b l, mul-le-mul-right w q, U .dims .wide, suc-mul (r t b) w))
+            ]
+
+      first : (r : ℕ → ℕ → ℕ) → Schedule n w p r → (s b : ℕ) → s < t + 1 → b < w → Agree w r reads′ s b → reads′ s b ≤ r s b
+      first r R s b l m A = elim (decLt s t) [
+        | yes q ↦
+            rw (extended-same reads t (addressOf w words) s b (earlier s q))
+            (S .first r R s b q m (λ i d k sooner.
+            A i d k sooner ∙ extended-same reads t (addressOf w words) i d
+            (earlier i (⊎-elim (λ x. omega arith) (λ x. omega (arith, x .0)) sooner))))
+        | no q ↦
+            let e : s ≡ t = omega arith in
+            subst (λ (x : ℕ). reads′ x b ≤ r x b) (sym e) (no-lower r R b m (subst (λ (x : ℕ). Agree w r reads′ x b) e A))
+      ]
+
+      pub due-took : Took n w p reads t words heads′ edges′
       due-took = record {
         long = T .long;
         inside = inside;
@@ -245,20 +330,23 @@ module _ {n w : ℕ} {p : ℕ → ℕ} {reads : ℕ → ℕ → ℕ} {t : ℕ} {
         scheduled = record {
           headed = headed;
           edges-long = T .edges-long;
-          owner-long = T .owner-long;
           joined = joined;
           cut = cut;
-          matches = matches;
           banks = banks;
           ports = ports-left;
           below = below;
           sent = sent;
+          used = used;
           once = once;
           apart = apart;
+          first = first;
         };
       }
 
 -- after all lines
-pub scheduled-schedule : {n w : ℕ} {p : ℕ → ℕ} {reads : ℕ → ℕ → ℕ} {heads edges owner : List ℕ}
-    → Scheduled n w p reads (cycles n w) heads edges owner → Schedule n w p reads
-scheduled-schedule S = record { below = S .below; once = S .once; ports = S .apart }
+pub scheduled-first : {n w : ℕ} {p : ℕ → ℕ} {reads : ℕ → ℕ → ℕ} {heads edges : List ℕ} → Scheduled n w p reads (cycles n w) heads edges
+    → First n w p reads
+scheduled-first S = record {
+  schedule = record { below = S .below; once = S .once; ports = S .apart };
+  first = λ r R E. omega (arith, E .lower, S .first r R (E .line) (E .bank) (E .line-below) (E .bank-below) (E .same));
+}

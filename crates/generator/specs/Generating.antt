@@ -13,7 +13,8 @@ use Rattle.images.specs.declared.Checked.the-variants.{Permutation, Refused}
 use Rattle.images.specs.Images.{checkOf, orderOf}
 use Rattle.laws.specs.Permutation.{Permutes}
 use Rattle.tables.specs.Terms.{Limited, fileLength, limitTest, padded}
-use Rattle.tables.specs.Generated.{Schedule, setOf}
+use Rattle.tables.specs.Generated.{setOf}
+use Rattle.tables.specs.First.{First}
 use Rattle.generator.specs.declared.Extent.{Extent}
 use Rattle.generator.specs.declared.Generation.{Generation}
 use Rattle.generator.specs.declared.Generation.the-variants.{Written, Refused as Unmade}
@@ -51,14 +52,14 @@ checksOf n w images room scratch =
 pub data GenerateOutcome : Type 0 where
   generateOutcome : Generation → List ℕ → List ℕ → GenerateOutcome
 
--- "which read lines a generated set has" is open: read lines that take each word once, with all ports of a line different, and their set
--- at the front of the file; behind it all is as it was
+-- "the one whose read addresses come first" (document 02, #102): the set of the first read lines at the front of the file; behind it all is as
+-- it was. This decides every byte of the file (`same-set`)
 pub record Made (n w : ℕ) (p : ℕ → ℕ) (file file′ : List ℕ) : Type 0 where
   pub reads : ℕ → ℕ → ℕ
-  pub schedule : Schedule n w p reads
+  pub first : First n w p reads
   pub written : file′ ≡ setOf n w p reads ++ drop (fileLength n w) file
 
--- and so are the needed scratch words. Only the first n of them are used, and all later ones are as they were
+-- the needed scratch words are undecided. Only the first n of them are used, and all later ones are as they were
 pub record Filled (n w : ℕ) (p : ℕ → ℕ) (file scratch file′ scratch′ : List ℕ) : Type 0 where
   pub made : Made n w p file file′
   pub scratch-long : length scratch′ ≡ length scratch

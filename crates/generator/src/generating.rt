@@ -19,7 +19,6 @@ use images::Checked;
 use limits::MOST_SWITCHES;
 use limits::MOST_WIDTH;
 use limits::MOST_WORDS;
-use matching::FREE;
 use refusal::Refusal;
 use tables::Limits;
 use tables::Shape;
@@ -90,7 +89,6 @@ fn put_set(
     ensures { λ _. ⌜ Made (shape .words) (shape .width) (orderOf (length (now (images .entry))) (now (images .entry)))
         (now (file .entry)) (now (file .exit)) ⌝ }
 {
-    let mut owner = [FREE; MOST_WIDTH];
     let mut words = [0u16; MOST_WIDTH];
     let mut reads = [0u16; MOST_WIDTH];
     let mut forward = tables::numbered();
@@ -100,7 +98,7 @@ fn put_set(
     let mut writer = packing::begin(file, shape);
     let mut t = 0;
     while t < shape.cycles {
-        take_line(next, heads, edges, &mut owner, &mut words, shape.width);
+        take_line(next, heads, edges, &mut words, shape.width);
         packing::plan_line(
             images,
             &words,

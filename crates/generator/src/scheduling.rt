@@ -1,8 +1,8 @@
-// The read lines of a set: line by line a perfect matching of what is left. This module is private to the crate, so its functions may have a
-// `requires`.
+// The read lines of a set: line by line the first perfect matching of what is left, by the words that come next. This module is private to the
+// crate, so its functions may have a `requires`.
 ghost use mathlib.Core.Path.{_≡_};
 ghost use Prim.Native.Nat.{ℕ, _+_, _*_, _%_, _<_, _≤_};
-ghost use lib.ListN.{length, getD, replicate};
+ghost use lib.ListN.{length, replicate};
 ghost use Rattle.limits.specs.Limits.{mostWidth};
 ghost use Rattle.images.specs.Images.{orderOf};
 ghost use Rattle.matching.specs.Graph.{Edge};
@@ -11,12 +11,14 @@ ghost use Rattle.generator.specs.inner.Schedule.{headAt, Linked, Drawn, 
 use images::image_at;
 use limits::MOST_WIDTH;
 use limits::NO_WORD;
-use matching::complete;
+use matching::FREE;
+use matching::KEYS;
+use matching::cut;
+use matching::first;
 use matching::join;
-use matching::release;
 
-// The heads: one for each bank and port.
-pub const HEADS: usize = MOST_WIDTH * MOST_WIDTH;
+// The heads: one for each bank and port. They are the keys by which the first matching is chosen.
+pub const HEADS: usize = KEYS;
 
 // The bank of the word before a word of this bank. A remainder would tell it too, but at the cost of a division.
 fn bank_before(bank: usize, w: usize) -> usize
@@ -55,26 +57,25 @@ pub fn chain(
     heads
 }
 
-// Takes the lowest word that is left for a port from its owner. Where it is the last, their edge goes.
+// Takes the lowest word that is left of a bank and port. Where it is the last, their edge goes.
 fn take_word(
     next: &[u16],
     heads: &mut [u16; HEADS],
     edges: &mut [u64; MOST_WIDTH],
-    owner: &mut [u8; MOST_WIDTH],
+    bank: usize,
     port: usize,
 ) -> u16
-    requires { ⌜ (length (now heads) ≡ headCount) × (length (now edges) ≡ mostWidth) × (length (now owner) ≡ mostWidth) × (port < mostWidth) ⌝ }
-    requires { ⌜ (getD (now owner) port 0 < mostWidth) × Edge (now edges) (getD (now owner) port 0) port
-        × (headAt (now heads) (getD (now owner) port 0) port < length (now next)) ⌝ }
-    ensures { λ r. ⌜ Advanced (now (next .entry)) (now (heads .entry)) (now (edges .entry)) (now (owner .entry)) port r
-        (now (heads .exit)) (now (edges .exit)) (now (owner .exit)) ⌝ }
+    requires { ⌜ (length (now heads) ≡ headCount) × (length (now edges) ≡ mostWidth) × (bank < mostWidth) × (port < mostWidth) ⌝ }
+    requires { ⌜ Edge (now edges) bank port × (headAt (now heads) bank port < length (now next)) ⌝ }
+    ensures { λ r. ⌜ Advanced (now (next .entry)) (now (heads .entry)) (now (edges .entry)) bank port r
+        (now (heads .exit)) (now (edges .exit)) ⌝ }
 {
-    let place = owner[port] as usize * MOST_WIDTH + port;
+    let place = bank * MOST_WIDTH + port;
     let word = heads[place];
     let after = next[word as usize];
     heads[place] = after;
     if after == NO_WORD {
-        release(edges, owner, port);
+        cut(edges, bank, port);
     }
     word
 }
@@ -84,37 +85,38 @@ fn take_words(
     next: &[u16],
     heads: &mut [u16; HEADS],
     edges: &mut [u64; MOST_WIDTH],
-    owner: &mut [u8; MOST_WIDTH],
+    owner: &[u8; MOST_WIDTH],
     words: &mut [u16; MOST_WIDTH],
     w: usize,
 )
     requires { ⌜ Takeable (now next) (now heads) (now edges) (now owner) w ⌝ }
     requires { ⌜ length (now words) ≡ mostWidth ⌝ }
     ensures { λ _. ⌜ Takes (now (next .entry)) (now (heads .entry)) (now (edges .entry)) (now (owner .entry)) w
-        (now (words .exit)) (now (heads .exit)) (now (edges .exit)) (now (owner .exit)) ⌝ }
+        (now (words .exit)) (now (heads .exit)) (now (edges .exit)) ⌝ }
 {
     let mut k = 0;
     while k < w {
-        words[k] = take_word(next, heads, edges, owner, k);
+        words[k] = take_word(next, heads, edges, owner[k] as usize, k);
         k += 1;
     }
 }
 
-// Takes the next line: the word of port k is put at k. Banks and ports all have one word left for each line left, so no bank is stuck.
+// Takes the next line: the word of port k is put at k. Banks and ports all have one word left for each line left, so no bank is stuck. Bank by
+// bank the line has the lowest word with which it can be finished, and then the later lines can be too.
 pub fn take_line(
     next: &[u16],
     heads: &mut [u16; HEADS],
     edges: &mut [u64; MOST_WIDTH],
-    owner: &mut [u8; MOST_WIDTH],
     words: &mut [u16; MOST_WIDTH],
     w: usize,
 )
-    requires { ⌜ ((n : ℕ) × (p : ℕ → ℕ) × (reads : ℕ → ℕ → ℕ) × (t : ℕ) × Due n w p reads t (now next) (now heads) (now edges) (now owner)) ⌝ }
+    requires { ⌜ ((n : ℕ) × (p : ℕ → ℕ) × (reads : ℕ → ℕ → ℕ) × (t : ℕ) × Due n w p reads t (now next) (now heads) (now edges)) ⌝ }
     requires { ⌜ length (now words) ≡ mostWidth ⌝ }
     ensures { λ _. ⌜ ((n : ℕ) (p : ℕ → ℕ) (reads : ℕ → ℕ → ℕ) (t : ℕ)
-        → Due n w p reads t (now (next .entry)) (now (heads .entry)) (now (edges .entry)) (now (owner .entry))
-        → Took n w p reads t (now (words .exit)) (now (heads .exit)) (now (edges .exit)) (now (owner .exit))) ⌝ }
+        → Due n w p reads t (now (next .entry)) (now (heads .entry)) (now (edges .entry))
+        → Took n w p reads t (now (words .exit)) (now (heads .exit)) (now (edges .exit))) ⌝ }
 {
-    complete(edges, w, owner);
-    take_words(next, heads, edges, owner, words, w);
+    let mut owner = [FREE; MOST_WIDTH];
+    first(edges, heads, w, &mut owner);
+    take_words(next, heads, edges, &owner, words, w);
 }

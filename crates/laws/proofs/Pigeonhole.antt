@@ -59,7 +59,7 @@ pub hits-one : (n : ℕ) (f : ℕ → ℕ) → ((i : ℕ) → i < n → f i < n)
 hits-one n f below inj = all-one n (hits n f) (λ y l. hits-le n f y inj) (hits-total n n f below)
 
 -- two arguments of one value count twice
-hits-two : (n : ℕ) (f : ℕ → ℕ) (y i j : ℕ) → i < j → j < n → f i ≡ y → f j ≡ y → 2 ≤ hits n f y
+pub hits-two : (n : ℕ) (f : ℕ → ℕ) (y i j : ℕ) → i < j → j < n → f i ≡ y → f j ≡ y → 2 ≤ hits n f y
 unfolding hits sum
 hits-two zero f y i j l m e g = absurd (omega arith)
 hits-two (suc n) f y i j l m e g = elim (ℕ-discrete j n) [

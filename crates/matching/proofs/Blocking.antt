@@ -15,7 +15,7 @@ use Rattle.matching.specs.inner.Search.{Closed, Explored}
 use Rattle.matching.proofs.Members.{member-le}
 
 -- the factors of a product that is not 0
-factors : (a b : ℕ) → 0 < a * b → (0 < a) × (0 < b)
+pub factors : (a b : ℕ) → 0 < a * b → (0 < a) × (0 < b)
 factors zero b h = absurd (omega (arith, zero-mul b))
 factors (suc a) zero h = absurd (omega (arith, mul-zero (suc a)))
 factors (suc a) (suc b) h = (omega arith, omega arith)

@@ -3,6 +3,9 @@ pub mod Matchings
 pub mod Graphs
 mod Members
 mod Augmenting
-mod Surveying
 mod Blocking
 mod Completing
+mod Leasts
+mod Ruling
+mod Settles
+mod Seats

@@ -2,16 +2,17 @@
 -- a shifted 1 has its one digit at the shift. So every set that the code makes is known by its members.
 use Prim.Native.Nat.{ℕ, zero, suc, _+_, _-_, _*_, _/_, _%_, _^_, _≤_, _<_, min, max}
 use mathlib.Core.Path.{_≡_, refl, sym, ap, ap₂, _∙_}
+use mathlib.Core.Logic.{_⊎_, inl, inr}
 use native.Mathlib.Nat.{add-zero, pow-suc, pow-succ', one-mul, mul-one, mul-zero, mul-assoc, mod-lt, lt-of-lt-of-le, zero-lt-suc}
 use native.Mathlib.Nat.{div-one, div-eq-of-lt, div-div-eq-div-mul, div-lt-iff-lt-mul}
 use native.Mathlib.Omega.{arith}
 use native.Mathlib.Decide.{ℕ-discrete, decLt}
 use lib.Arith.{digits-mod}
-use lib.Bits.{bitAnd, bitOr, bitXor, differ, and-shr, or-shr, xor-shr, and-step, or-step, xor-step, and-block, and-mask, and-zero-r, xor-add-and}
+use lib.Bits.{bitAnd, bitOr, bitXor, differ, and-shr, or-shr, xor-shr, and-step, or-step, xor-step, and-self, and-block, and-mask, and-zero-r, xor-add-and}
 use lib.Count.{trailingZeros, under, trailing-le}
 use lib.Pow.{pow-pos, pow-mono, pow-add, shl-shr, shl-lt, shl-exact, split, high, ones-lt, ones-split}
 use Rattle.laws.specs.Sum.{is}
-use Rattle.laws.proofs.Sums.{is-eq, is-ne}
+use Rattle.laws.proofs.Sums.{is-eq, is-ne, is-le}
 use Rattle.matching.specs.Set.{member, _∈_, Collects, With, Without, Minus}
 
 pub member-le : (x k : ℕ) → member x k ≤ 1
@@ -86,14 +87,30 @@ trailing-digit (suc d) x n h = by (x % 2) refl
     by zero e half = rw (pow-succ', ← div-div-eq-div-mul) (half e)
     by (suc r) e half = rw div-one (omega arith)
 
+-- and below it are zeros
+trailing-none : (d x k : ℕ) → k < trailingZeros d x → member x k ≡ 0
+unfolding member trailingZeros
+trailing-none zero x k l = absurd (omega arith)
+trailing-none (suc d) x k l = by (x % 2) refl l (λ j m. trailing-none d (x / 2) j m) k refl
+  where
+    by : (r : ℕ) → x % 2 ≡ r → k < under r (trailingZeros d (x / 2)) → ((j : ℕ) → j < trailingZeros d (x / 2) → x / 2 / 2 ^ j % 2 ≡ 0)
+        → (i : ℕ) → i ≡ k → x / 2 ^ i % 2 ≡ 0
+    by zero e m half zero z = rw div-one e
+    by zero e m half (suc j) z = rw (pow-succ', ← div-div-eq-div-mul) (half j (omega arith))
+    by (suc r) e m half i z = absurd (omega arith)
+
 -- the lowest number in a set that is not empty
-pub lowest-in : (d x : ℕ) → (x ≡ 0 → ⊥) → x < 2 ^ d → (trailingZeros d x < d) × (trailingZeros d x ∈ x)
+pub lowest-in : (d x : ℕ) → (x ≡ 0 → ⊥) → x < 2 ^ d
+    → (trailingZeros d x < d) × (trailingZeros d x ∈ x) × ((k : ℕ) → k ∈ x → trailingZeros d x ≤ k)
 unfolding member
 lowest-in d x n h =
     let t : ℕ = trailingZeros d x in
     let e : x / 2 ^ t % 2 ≡ 1 = trailing-digit d x n h in
-    let past : t ≡ d → x / 2 ^ t % 2 ≡ 0 = λ q. rw (q, div-eq-of-lt h) refl in
-    (elim (ℕ-discrete t d) [ yes q ↦ absurd (omega (arith, past q)) | no ne ↦ omega (arith, trailing-le d x) ], e)
+    let past : t ≡ d → x / 2 ^ t % 2 ≡ 0 = λ q. rw (q, div-eq-of-lt h) refl in (
+      elim (ℕ-discrete t d) [ yes q ↦ absurd (omega (arith, past q)) | no ne ↦ omega (arith, trailing-le d x) ],
+      e,
+      λ k m. elim (decLt k t) [ yes l ↦ absurd (omega (arith, trailing-none d x k l, m)) | no l ↦ omega arith ],
+    )
 
 -- the digit of a member
 and-power : (x p : ℕ) → p ∈ x → bitAnd x (2 ^ p) ≡ 2 ^ p
@@ -121,6 +138,28 @@ without-in x p h =
       | yes e ↦ rw (member-xor, digit k, is-eq p k e, ← e, h) refl
       | no ne ↦ rw (member-xor, digit k, is-ne p k ne) (by (member x k))
     ]
+
+-- the lowest number taken out: a number's last 1 and the zeros behind it change when 1 is subtracted, and nothing above
+and-less : (p x : ℕ) → p ∈ x → ((k : ℕ) → k < p → member x k ≡ 0) → bitAnd x (x - 1) + 2 ^ p ≡ x
+unfolding member
+and-less zero x h low =
+    let odd : x % 2 ≡ 1 = rw div-one at h in
+    let half : (x - 1) / 2 ≡ x / 2 = omega arith in
+    omega (arith, and-step x (x - 1), ap (bitAnd (x / 2)) half, and-self (x / 2), odd)
+and-less (suc p) x h low =
+    let even : x % 2 ≡ 0 = rw div-one at (low 0 (omega arith)) in
+    let some : x ≡ 0 → ⊥ = λ e. omega (arith, h, ap (λ (z : ℕ). z / 2 ^ suc p) e, div-eq-of-lt (pow-pos (suc p))) in
+    let half : (x - 1) / 2 ≡ x / 2 - 1 = omega arith in
+    let deep : (k : ℕ) → x / 2 ^ suc k % 2 ≡ x / 2 / 2 ^ k % 2 = λ k. rw (pow-succ', ← div-div-eq-div-mul) refl in
+    let rest = and-less p (x / 2) (sym (deep p) ∙ h) (λ k l. sym (deep k) ∙ low (suc k) (omega arith)) in
+    omega (arith, and-step x (x - 1), ap (bitAnd (x / 2)) half, rest, even, some, pow-suc 2 p)
+
+pub tail-in : (x p : ℕ) → p ∈ x → ((k : ℕ) → k ∈ x → p ≤ k) → Without x p (bitAnd x (x - 1))
+tail-in x p h low =
+    let zeros : (k : ℕ) → k < p → member x k ≡ 0 =
+    λ k l. elim (ℕ-discrete (member x k) 1) [ yes e ↦ absurd (omega (arith, low k e)) | no ne ↦ omega (arith, member-le x k) ] in
+    let same : bitAnd x (x - 1) ≡ bitXor x (2 ^ p) = omega (arith, and-less p x h zeros, xor-add-and x (2 ^ p), and-power x p h) in
+    rw same (without-in x p h)
 
 -- the numbers below n
 pub ones-collect : (n : ℕ) → Collects (2 ^ n - 1) n (λ k. k < n)
@@ -164,3 +203,18 @@ module _ {x p y : ℕ} (W : Without x p y) where
 
   pub without-kept : (k : ℕ) → k ∈ x → (k ≡ p → ⊥) → k ∈ y
   without-kept k h ne = omega (arith, W .members k, is-ne p k (λ e. ne (sym e)))
+
+-- a set with one number more
+module _ {x p y : ℕ} (W : With x p 1 y) where
+  pub with-cases : (k : ℕ) → k ∈ y → (k ∈ x) ⊎ (k ≡ p)
+  with-cases k h = elim (ℕ-discrete p k) [ yes e ↦ inr (sym e) | no ne ↦ inl (omega (arith, W .members k, is-ne p k ne)) ]
+
+  pub with-here : p ∈ y
+  with-here = omega (arith, W .members p, is-eq p p refl, member-le x p)
+
+  pub with-there : (k : ℕ) → k ∈ x → k ∈ y
+  with-there k h = omega (arith, W .members k, is-le p k)
+
+-- a number that two sets have in common
+pub in-and : (x y k : ℕ) → k ∈ x → k ∈ y → k ∈ bitAnd x y
+in-and x y k h g = omega (arith, member-and x y k)

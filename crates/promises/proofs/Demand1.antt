@@ -49,7 +49,7 @@ use Rattle.rughtena.specs.Step.{Exported, exported, inNumbers, exportedStep, re
 use Rattle.rughtena.proofs.Clocks.{clock-kept, clock-put}
 use Rattle.refusal.proofs.Numbers.{number-range}
 use Rattle.rughtena.proofs.Numbers.{reply-refuses}
-use Rattle.promises.specs.Demand1.{Memory, memory, Unaltered, Altered, Ends, refused, accepted, Only, Becomes, First, Taken, Leaving, saysWritten, nextNumbers, stepMemories, Lending}
+use Rattle.promises.specs.Demand1.{Memory, memory, Unaltered, Altered, Ends, refused, accepted, Only, Becomes, Front, Taken, Leaving, saysWritten, nextNumbers, stepMemories, Lending}
 
 -- ---- the shape
 
@@ -65,13 +65,13 @@ only-none = record { long = refl; others = λ i other. refl }
 -- ---- fronts
 
 only-front : {k : ℕ} {before after : List ℕ} → length after ≡ length before → ((i : ℕ) → k ≤ i → getD after i 0 ≡ getD before i 0)
-    → Only (First k) before after
+    → Only (Front k) before after
 only-front long behind = record { long = long; others = λ i other. behind i (omega arith) }
 
-only-overwrite : (k : ℕ) (f : ℕ → ℕ) (xs : List ℕ) → k ≤ length xs → Only (First k) xs (overwrite k f xs)
+only-overwrite : (k : ℕ) (f : ℕ → ℕ) (xs : List ℕ) → k ≤ length xs → Only (Front k) xs (overwrite k f xs)
 only-overwrite k f xs l = only-front (length-overwrite k f xs l) (λ i m. getD-overwrite-past k f xs i 0 m)
 
-only-replaced : (k : ℕ) (front xs : List ℕ) → length front ≡ k → k ≤ length xs → Only (First k) xs (front ++ drop k xs)
+only-replaced : (k : ℕ) (front xs : List ℕ) → length front ≡ k → k ≤ length xs → Only (Front k) xs (front ++ drop k xs)
 only-replaced k front xs long l = only-front (simp (length-append, length-drop) (omega (arith, long))) λ i m.
     let e : k + (i - k) ≡ i = omega arith in
     rw e at (getD-behind front (drop k xs) k (i - k) 0 long ∙ getD-drop k xs (i - k) 0)
@@ -84,7 +84,7 @@ module _ (width : ℕ) (images values : List ℕ) where
 
   abbrev SetEnds : SetOutcome → Type 0
   SetEnds (setOutcome answer values′) =
-      Ends (settingReply answer) (bitCount d ∷ []) (memory values values′ (Only (First (bitCount d))) ∷ [])
+      Ends (settingReply answer) (bitCount d ∷ []) (memory values values′ (Only (Front (bitCount d))) ∷ [])
 
   set-written : (x : Checked) → bitCount d ≤ length values → SetEnds (written x width images values)
   unfolding written settledOf settingReply
@@ -119,7 +119,7 @@ module _ (width : ℕ) (values : List ℕ) (line : ℕ) where
 module _ (file images scratch : List ℕ) where
   abbrev ReadEnds : ReadOutcome → Type 0
   ReadEnds (readOutcome answer images′) =
-      Ends (readingReply answer) (headerWords file ∷ headerWidth file ∷ []) (memory images images′ (Only (First (headerWords file))) ∷ [])
+      Ends (readingReply answer) (headerWords file ∷ headerWidth file ∷ []) (memory images images′ (Only (Front (headerWords file))) ∷ [])
 
   read-ends : ReadEnds (readOf file images scratch)
   unfolding readingReply
@@ -128,7 +128,7 @@ module _ (file images scratch : List ℕ) where
       let F = opened-form file (r .4 .opened) in
       let same : accepts (r .0 ∷ r .1 ∷ []) ≡ accepts (headerWords file ∷ headerWidth file ∷ []) =
       ap₂ (λ (n w : ℕ). accepts (n ∷ w ∷ [])) (sym (form-words F)) (sym (form-width F)) in
-      let front : Only (First (r .0)) images (r .2) =
+      let front : Only (Front (r .0)) images (r .2) =
       rw (r .4 .written) (only-overwrite (r .0) (λ i. getD (r .2) i 0) images (r .4 .room)) in
       rw (r .3) (accepted same (rw (form-words F) front, tt))) (λ r. rw (r .1) (turned (r .0) (refl, tt))) (read-cases file images scratch)
 
@@ -140,7 +140,7 @@ module _ (n w : ℕ) (images file scratch : List ℕ) (answer : Generation) (fil
   m = padded n w
 
   abbrev generateMemories : List Memory
-  generateMemories = memory file file′ (Only (First (fileLength m w))) ∷ memory scratch scratch′ (Only (First m)) ∷ []
+  generateMemories = memory file file′ (Only (Front (fileLength m w))) ∷ memory scratch scratch′ (Only (Front m)) ∷ []
 
   generate-told : (x : Checked) → checksOf n w images (length file) (length scratch) ≡ x
       → Ends (generationReply answer) (fileLength m w ∷ []) generateMemories
@@ -155,7 +155,7 @@ module _ (n w : ℕ) (images file scratch : List ℕ) (answer : Generation) (fil
       let A = G .generated h in
       let F = A .1 in
       let p : ℕ → ℕ = orderOf n images in
-      let front : Only (First (fileLength m w)) file file′ =
+      let front : Only (Front (fileLength m w)) file file′ =
       rw (F .made .written) (only-replaced (fileLength m w) (generatedSet m w p (F .made .reads)) file (length-setOf m w p (F .made .reads))
       (checks-passed n w images (length file) (length scratch) h .roomy)) in
       rw (A .0) (accepted refl (front, (only-front (F .scratch-long) (F .scratch-kept), tt)))

@@ -73,9 +73,9 @@ module _ (n w : ℕ) (images file scratch : List ℕ) (answer : Generation) (fil
   generated =
       let F = G .generated (passed-checks R) .1 in
       rw (front F) (
-        setOf-form (generable-dims R) (generable-permutes R) (F .made .schedule),
+        setOf-form (generable-dims R) (generable-permutes R) (F .made .first .schedule),
         λ out memory lent.
-            ap toldOf (generated-reads out memory (generable-dims R) (generable-permutes R) (F .made .schedule) (lent .0) (lent .1)),
+            ap toldOf (generated-reads out memory (generable-dims R) (generable-permutes R) (F .made .first .schedule) (lent .0) (lent .1)),
       )
 
 pub demand-2 : Reading readOf

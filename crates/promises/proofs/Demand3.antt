@@ -64,8 +64,8 @@ demand-3 n w images file scratch answer file′ scratch′ R G =
     rw (front F) (record {
       accepted = ap generationReply (A .0) ∙ ap (λ (k : ℕ). accepts (k ∷ [])) (sym long);
       long = long;
-      reads = λ out memory lent. ap toldOf (generated-reads out memory D permutes (F .made .schedule) (lent .0) (lent .1));
-      streams = generated-is-plain D permutes (F .made .schedule);
+      reads = λ out memory lent. ap toldOf (generated-reads out memory D permutes (F .made .first .schedule) (lent .0) (lent .1));
+      streams = generated-is-plain D permutes (F .made .first .schedule);
     })
 
 -- The same of `lentMachine`, which is made of `lentStep`, which the contract of `machine::step_lent` cites: the clock stays lent, and each step

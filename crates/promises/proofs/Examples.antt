@@ -23,6 +23,7 @@ use Rattle.tables.specs.Header.{headerOf, headerBits, headerWords, headerWidth,
 use Rattle.tables.specs.Format.{lineAt, readAddress, switchBit, writeAddress, filling, shapeOf, headerTest, lengthTest, openOf}
 use Rattle.tables.specs.Datapath.{carriedTo, target, readStrays, carryStrays, writeStrays, imageOf}
 use Rattle.tables.specs.Generated.{wordOf, portOf, writeOf, lineOf, setBits, setOf}
+use Rattle.tables.specs.FirstTest.{portAt, barred, tried, finishes, misses, firstTest}
 use Rattle.reading.specs.Reading.{readFault, writeFault, scanLines, readLines, readOpened, readOf, readingReply}
 use Rattle.generator.specs.Generating.{scratchNeed, lentTest, checksOf, Generates, generationReply}
 use Rattle.generator.specs.declared.Generation.{Generation}
@@ -34,14 +35,14 @@ use Rattle.promises.specs.Questions.{generationOf, answer}
 use Rattle.promises.specs.Examples.{examples, ExamplesHold}
 
 pub examples-hold : ExamplesHold
-unfolding ifLt ifLe ifEq any tabulate overwrite joined inverse digit bit field digits numberAt packed refusalReply orderOf earlier checkFrom checkOf
-    bitCount depthOf leaves next rank least chosen setting carried settledOf written settingOf settingReply firstBad passageOf followOf
-    followedReply limitTest dimsTest padded logFrom logUp cycles addressBits depth switchBits addressRow lineBits fileLength headerOf headerBits headerWords
-    headerWidth headerZeros lineAt readAddress switchBit writeAddress filling shapeOf headerTest lengthTest openOf carriedTo target
-    readStrays carryStrays writeStrays wordOf portOf writeOf lineOf setBits setOf readFault writeFault scanLines imageOf readLines
-    readOpened readOf readingReply scratchNeed lentTest checksOf generationReply run spot fresh nextFrame nextClock leaving moving entering
-    advanceOf saysOf accepted bufferTest clockTest lineTest stepLine stepOpened stepOf said clockAfter carded machine stepReply empty given
-    took turned plain answer examples
+unfolding ifLt ifLe ifEq any tabulate overwrite joined inverse digit bit field digits numberAt packed refusalReply orderOf earlier checkFrom
+    checkOf bitCount depthOf leaves next rank least chosen setting carried settledOf written settingOf settingReply firstBad passageOf followOf
+    followedReply limitTest dimsTest padded logFrom logUp cycles addressBits depth switchBits addressRow lineBits fileLength headerOf headerBits
+    headerWords headerWidth headerZeros lineAt readAddress switchBit writeAddress filling shapeOf headerTest lengthTest openOf carriedTo target
+    readStrays carryStrays writeStrays wordOf portOf writeOf lineOf setBits setOf portAt barred tried finishes misses firstTest readFault
+    writeFault scanLines imageOf readLines readOpened readOf readingReply scratchNeed lentTest checksOf generationReply run spot fresh nextFrame
+    nextClock leaving moving entering advanceOf saysOf accepted bufferTest clockTest lineTest stepLine stepOpened stepOf said clockAfter carded
+    machine stepReply empty given took turned plain answer examples
 examples-hold = refl
 
 -- the answer of generating, by its contract

@@ -69,7 +69,7 @@ set-by-rule {n} {w} {p} {reads} D P S t l =
 pub generated-by-rule : GeneratedByRule
 generated-by-rule n w images file scratch answer file′ scratch′ R G t l =
     let F = G .generated (passed-checks R) .1 in
-    rw (front F) (set-by-rule (generable-dims R) (generable-permutes R) (F .made .schedule) t l)
+    rw (front F) (set-by-rule (generable-dims R) (generable-permutes R) (F .made .first .schedule) t l)
 
 -- ---- set, then follow
 

@@ -60,8 +60,8 @@ Becomes next before after = after ≡ next
 -- ---- which words are named
 
 -- the first k
-abbrev pub First : ℕ → ℕ → Type 0
-First k i = i < k
+abbrev pub Front : ℕ → ℕ → Type 0
+Front k i = i < k
 
 -- of the first memory: "the w entering words go to address t of half h"
 abbrev pub Entered : ℕ → ℕ → Clock → ℕ → Type 0
@@ -100,19 +100,19 @@ pub record Lending : Type 0 where
   -- setting a network: B; the first B values
   pub set : (width : ℕ) (images values : List ℕ) (answer : Setting) (values′ : List ℕ)
       → setOutcome answer values′ ≡ settingOf width images values
-      → Ends (settingReply answer) (bitCount (depthOf width) ∷ []) (memory values values′ (Only (First (bitCount (depthOf width)))) ∷ [])
+      → Ends (settingReply answer) (bitCount (depthOf width) ∷ []) (memory values values′ (Only (Front (bitCount (depthOf width)))) ∷ [])
   -- following a line: the line on which it leaves; nothing is lent to be written
   pub follow : (width : ℕ) (values : List ℕ) (line : ℕ) (answer : Followed) → answer ≡ followOf width values line
       → Ends (followedReply answer) (leaves (depthOf width) (λ i. getD values i 0) line ∷ []) []
   -- reading: n and w; the first n images
   pub read : (file images scratch : List ℕ) (answer : Reading) (images′ : List ℕ) → readOutcome answer images′ ≡ readOf file images scratch
-      → Ends (readingReply answer) (headerWords file ∷ headerWidth file ∷ []) (memory images images′ (Only (First (headerWords file))) ∷ [])
+      → Ends (readingReply answer) (headerWords file ∷ headerWidth file ∷ []) (memory images images′ (Only (Front (headerWords file))) ∷ [])
   -- generating: the file's length; as many bytes of the file, and as many scratch words as the padded n, fewer than the 4 for each of its words
   -- and the 1,024 that are lent
   pub generate : (n w : ℕ) (images file scratch : List ℕ) (answer : Generation) (file′ scratch′ : List ℕ)
       → Generates n w images file scratch answer file′ scratch′
       → Ends (generationReply answer) (fileLength (padded n w) w ∷ [])
-      (memory file file′ (Only (First (fileLength (padded n w) w))) ∷ memory scratch scratch′ (Only (First (padded n w))) ∷ [])
+      (memory file file′ (Only (Front (fileLength (padded n w) w))) ∷ memory scratch scratch′ (Only (Front (padded n w))) ∷ [])
   -- a step: whether words were written, and the next clock
   pub step : (file : List ℕ) (clock : Clock) (first second words out : List ℕ) (answer : Stepped) (first′ second′ out′ : List ℕ)
       → stepOutcome answer first′ second′ out′ ≡ stepOf file clock first second words out

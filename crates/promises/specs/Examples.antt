@@ -78,17 +78,17 @@ marked =
     ∷ asks (reading (0x00 ∷ 0x08 ∷ 0x10 ∷ []) (7 ∷ []) 2) (says (accepts (1 ∷ 1 ∷ [])) (0 ∷ []))
     ∷ asks (reading (0x00 ∷ 0x10 ∷ 0x20 ∷ 0x00 ∷ []) (7 ∷ 7 ∷ []) 4) (says (accepts (2 ∷ 2 ∷ [])) (0 ∷ 1 ∷ []))
     ∷ asks (reading (0x00 ∷ 0x10 ∷ 0x20 ∷ 0x80 ∷ []) (7 ∷ 7 ∷ []) 4) (says (accepts (2 ∷ 2 ∷ [])) (1 ∷ 0 ∷ []))
-    -- 4: the order of 12 words. The set is accepted, has these lines, and its read lines and the order determine it; generating accepts the order
+    -- 4: the order of 12 words. The set is accepted, has these lines, and is the one that generating makes
     ∷ asks (reading set12 (replicate 12 0) 24) (says (accepts (12 ∷ 3 ∷ [])) order12)
     ∷ asks (readLines 12 3 set12) (lines reads12)
     ∷ asks (switchLines 12 3 set12) (lines switches12)
     ∷ asks (writeLines 12 3 set12) (lines writes12)
     ∷ asks (making 12 3 order12 reads12) (bytes set12)
     ∷ asks (generating 12 3 order12 12 1072) (says (accepts (12 ∷ [])) [])
-    -- that set on the machine, and its order by the plain rule
+    -- set12 on the machine, and its order by the plain rule
     ∷ asks (running set12 24 steps12) (shows shown12)
     ∷ asks (reordering 12 3 order12 steps12) (shows shown12)
-    -- 5 to 7: that set without its last byte, with E1 last, with 31 third
+    -- 5 to 7: set12 without its last byte, with E1 last, with 31 third
     ∷ readingRefused (0x00 ∷ 0x60 ∷ 0x30 ∷ 0x0C ∷ 0x0C ∷ 0xA8 ∷ 0x58 ∷ 0x2A ∷ 0x2E ∷ 0xFE ∷ 0xD0 ∷ []) (replicate 12 0) 24 6 0
     ∷ readingRefused (0x00 ∷ 0x60 ∷ 0x30 ∷ 0x0C ∷ 0x0C ∷ 0xA8 ∷ 0x58 ∷ 0x2A ∷ 0x2E ∷ 0xFE ∷ 0xD0 ∷ 0xE1 ∷ []) (replicate 12 0) 24 8 0
     ∷ readingRefused (0x00 ∷ 0x60 ∷ 0x31 ∷ 0x0C ∷ 0x0C ∷ 0xA8 ∷ 0x58 ∷ 0x2A ∷ 0x2E ∷ 0xFE ∷ 0xD0 ∷ 0xE0 ∷ []) (replicate 12 0) 24 7 0
@@ -132,7 +132,7 @@ straight10 = 0 ∷ 1 ∷ 2 ∷ 3 ∷ 4 ∷ 5 ∷ 6 ∷ 7 ∷ 8 ∷ 9 ∷ []
 abbrev pub nine : List ℕ
 nine = 0 ∷ 1 ∷ 2 ∷ 3 ∷ 4 ∷ 5 ∷ 6 ∷ 7 ∷ 8 ∷ []
 
--- example 11, "an accepted set for n 12": one of the sets that read so
+-- example 11, "an accepted set for n 12"
 abbrev pub straight12 : List ℕ
 straight12 = 0x00 ∷ 0x60 ∷ 0x30 ∷ 0x00 ∷ 0x00 ∷ 0x2A ∷ 0x05 ∷ 0x6A ∷ 0x05 ∷ 0x5F ∷ 0x83 ∷ 0xF0 ∷ []
 
@@ -162,6 +162,32 @@ extensions =
     ∷ generatingRefused 10 3 (nine ++ (10 ∷ [])) 12 1072 4 9
     ∷ generatingRefused 10 3 (nine ++ (10 ∷ 9 ∷ 11 ∷ [])) 12 1072 4 9
     ∷ asks (generating 10 3 (straight10 ++ (0 ∷ 99 ∷ [])) 12 1072) (says (accepts (12 ∷ [])) [])
+    ∷ []
+
+-- ---- the first of all sets (document 02, #102); example 4 is one too
+
+-- in the first line bank 1 may not take its first word, though its port is free
+abbrev pub order6 : List ℕ
+order6 = 0 ∷ 2 ∷ 3 ∷ 1 ∷ 4 ∷ 5 ∷ []
+
+abbrev pub firsts : List Example
+firsts =
+    asks (making 6 3 order6 ((0 ∷ 1 ∷ 1 ∷ []) ∷ (1 ∷ 0 ∷ 0 ∷ []) ∷ [])) (bytes (0x00 ∷ 0x30 ∷ 0x30 ∷ 0x60 ∷ 0x72 ∷ 0x90 ∷ []))
+    -- its lines in the other order, and lines in which two banks have one port, are not the first ones
+    ∷ asks (making 6 3 order6 ((1 ∷ 0 ∷ 0 ∷ []) ∷ (0 ∷ 1 ∷ 1 ∷ []) ∷ [])) (bytes [])
+    ∷ asks (making 6 3 order6 ((0 ∷ 0 ∷ 0 ∷ []) ∷ (1 ∷ 1 ∷ 1 ∷ []) ∷ [])) (bytes [])
+    ∷ asks (making 6 2 (0 ∷ 2 ∷ 4 ∷ 1 ∷ 3 ∷ 5 ∷ []) ((0 ∷ 1 ∷ []) ∷ (1 ∷ 2 ∷ []) ∷ (2 ∷ 0 ∷ []) ∷ []))
+    (bytes (0x00 ∷ 0x30 ∷ 0x20 ∷ 0x10 ∷ 0x32 ∷ 0xA2 ∷ 0xA0 ∷ []))
+    ∷ asks (making 8 2 (0 ∷ 2 ∷ 1 ∷ 3 ∷ 4 ∷ 6 ∷ 5 ∷ 7 ∷ []) ((0 ∷ 1 ∷ []) ∷ (1 ∷ 0 ∷ []) ∷ (2 ∷ 3 ∷ []) ∷ (3 ∷ 2 ∷ []) ∷ []))
+    (bytes (0x00 ∷ 0x40 ∷ 0x20 ∷ 0x10 ∷ 0xA5 ∷ 0x2D ∷ 0x7D ∷ 0xE0 ∷ []))
+    ∷ asks (making 8 4 (0 ∷ 4 ∷ 1 ∷ 5 ∷ 2 ∷ 6 ∷ 3 ∷ 7 ∷ []) ((0 ∷ 1 ∷ 0 ∷ 1 ∷ []) ∷ (1 ∷ 0 ∷ 1 ∷ 0 ∷ []) ∷ []))
+    (bytes (0x00 ∷ 0x40 ∷ 0x40 ∷ 0x5A ∷ 0x9D ∷ 0x37 ∷ 0x00 ∷ []))
+    ∷ asks (making 9 3 (0 ∷ 3 ∷ 6 ∷ 1 ∷ 4 ∷ 7 ∷ 2 ∷ 5 ∷ 8 ∷ []) ((0 ∷ 1 ∷ 2 ∷ []) ∷ (1 ∷ 2 ∷ 0 ∷ []) ∷ (2 ∷ 0 ∷ 1 ∷ []) ∷ []))
+    (bytes (0x00 ∷ 0x48 ∷ 0x30 ∷ 0x18 ∷ 0x03 ∷ 0x31 ∷ 0x48 ∷ 0x61 ∷ 0x2B ∷ 0x00 ∷ []))
+    -- of orders that are extended
+    ∷ asks (making 3 2 (1 ∷ 2 ∷ 0 ∷ []) ((0 ∷ 0 ∷ []) ∷ (1 ∷ 1 ∷ []) ∷ [])) (bytes (0x00 ∷ 0x20 ∷ 0x20 ∷ 0x36 ∷ 0x40 ∷ []))
+    ∷ asks (making 5 4 (4 ∷ 3 ∷ 2 ∷ 1 ∷ 0 ∷ []) ((0 ∷ 0 ∷ 0 ∷ 0 ∷ []) ∷ (1 ∷ 1 ∷ 1 ∷ 1 ∷ []) ∷ []))
+    (bytes (0x00 ∷ 0x40 ∷ 0x40 ∷ 0x01 ∷ 0x47 ∷ 0x81 ∷ 0xC0 ∷ []))
     ∷ []
 
 -- ---- the network by itself
@@ -305,7 +331,7 @@ steps =
 -- ---- all of them
 
 unfoldable pub examples : List Example
-examples = marked ++ (generatings ++ (extensions ++ (networks ++ (readings ++ steps))))
+examples = marked ++ (generatings ++ (extensions ++ (firsts ++ (networks ++ (readings ++ steps)))))
 
 -- each question, computed, has the answer listed
 abbrev pub ExamplesHold : Type 0

@@ -3,6 +3,7 @@ pub mod Demand1
 pub mod Demand2
 pub mod Demand3
 pub mod Extended
+pub mod First
 pub mod Rule
 pub mod Plain
 pub mod Questions

@@ -3,6 +3,7 @@
 use Prim.Native.Nat.{ℕ}
 use mathlib.Core.List.{List, []}
 use lib.ListN.{getD, replicate}
+use Rattle.laws.specs.Choice.{choose}
 use Rattle.laws.specs.Tabulate.{tabulate}
 use Rattle.refusal.specs.Replies.{Reply, refuses}
 use Rattle.images.specs.Images.{orderOf}
@@ -13,6 +14,7 @@ use Rattle.passing.specs.Calls.{followOf, followedReply}
 use Rattle.tables.specs.Terms.{cycles, switchBits, fileLength, padded}
 use Rattle.tables.specs.Format.{readAddress, switchBit, writeAddress}
 use Rattle.tables.specs.Generated.{setOf}
+use Rattle.tables.specs.FirstTest.{firstTest}
 use Rattle.reading.specs.Reading.{ReadOutcome, readOutcome, readOf, readingReply}
 use Rattle.generator.specs.Generating.{extentOf, checksOf, generationReply}
 use Rattle.generator.specs.declared.Generation.{Generation}
@@ -38,8 +40,8 @@ pub data Question : Type 0 where
   running : List ℕ → ℕ → List Feed → Question
   -- the plain rule for n, w and images, n extended to a multiple of w, over a list of steps
   reordering : ℕ → ℕ → List ℕ → List Feed → Question
-  -- the set for n, w and images, n extended, that these read lines determine. In a frame of one cycle every read address is 0, and none need be listed:
-  -- generating gives this set (`one-cycle`)
+  -- the set that generating makes for n, w and images, n extended: that of these read lines, and no bytes where they do not pass the test for the
+  -- first ones (`SameSet.listed`). In a frame of one cycle every read address is 0, and none need be listed
   making : ℕ → ℕ → List ℕ → List (List ℕ) → Question
   -- the read lines, the switch bits and the write lines that stand in a set of n words and width w
   readLines : ℕ → ℕ → List ℕ → Question
@@ -76,6 +78,10 @@ stepSays (stepOutcome told first second out) = says (stepReply told) out
 abbrev pub listed : List (List ℕ) → ℕ → ℕ → ℕ
 listed reads t b = getD (getD reads t []) b 0
 
+-- the set that listed read lines determine, where they are the first ones
+abbrev pub madeOf : ℕ → ℕ → (ℕ → ℕ) → (ℕ → ℕ → ℕ) → List ℕ
+madeOf n w p reads = choose (firstTest n w p reads) (setOf n w p reads) []
+
 unfoldable pub answer : Question → Answer
 answer (generating n w images room scratch) = says (generationReply (generationOf (checksOf n w images room scratch) n w)) []
 answer (reading file images scratch) = readSays (readOf file images (replicate scratch 0))
@@ -85,7 +91,7 @@ answer (stepping file clock first second words out) = stepSays (stepOf file cloc
 answer (running file size steps) =
     shows (run (machine file) (record { clock = fresh; first = replicate size 0; second = replicate size 0 }) steps)
 answer (reordering n w images steps) = shows (run (plain (padded n w) w (orderOf n images)) empty steps)
-answer (making n w images reads) = bytes (setOf (padded n w) w (orderOf n images) (listed reads))
+answer (making n w images reads) = bytes (madeOf (padded n w) w (orderOf n images) (listed reads))
 answer (readLines n w file) = lines (tabulate (cycles n w) (λ t. tabulate w (readAddress n w file t)))
 answer (switchLines n w file) = lines (tabulate (cycles n w) (λ t. tabulate (switchBits w) (switchBit n w file t)))
 answer (writeLines n w file) = lines (tabulate (cycles n w) (λ t. tabulate w (writeAddress n w file t)))

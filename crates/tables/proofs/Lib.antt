@@ -18,6 +18,9 @@ pub mod SetBits
 pub mod Prefix
 pub mod ReadsBack
 pub mod Written
+-- That the first read lines are determined, and first among all sets; and that read lines which pass the test are first.
+pub mod Firsts
+pub mod FirstTests
 -- What the code does, over the lists that it holds.
 pub mod Opens
 pub mod Scans

@@ -69,6 +69,16 @@ module _ {n w : ℕ} {file : List ℕ} (D : Dims n w) (A : Accepted n w file) wh
         refl,
       )
 
+  -- the word that bank b gives in line t is taken at that line's target
+  pub image-source : (t b : ℕ) → t < cycles n w → b < w → imageOf n w file (source n w file t b) ≡ target n w file t b
+  unfolding source
+  image-source t b l m =
+      let i : ℕ = source n w file t b in
+      let r = source-found i (source-below t b l m) in
+      let z = word-injective w (readAddress n w file (r .0) (i % w)) (readAddress n w file t b) (i % w) b (mod-lt i (D .wide)) m (r .2) in
+      let line : r .0 ≡ t = A .reads-once b m (r .0) t (r .1) l (ap (readAddress n w file (r .0)) (sym (z .1)) ∙ z .0) in
+      r .3 ∙ ap₂ (target n w file) line (z .1)
+
   pub image-permutes : Permutes n (imageOf n w file)
   image-permutes = record { below = below; injective = injective }
     where

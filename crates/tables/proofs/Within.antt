@@ -36,11 +36,10 @@ below-none m k f h = any-none k (λ b. leb m (f b)) (λ b l. lt-leb m (f b) (h b
 none-below : (m k : ℕ) (f : ℕ → ℕ) → any k (λ b. leb m (f b)) ≡ false → (b : ℕ) → b < k → f b < m
 none-below m k f h b l = leb-false m (f b) (any-false k (λ b. leb m (f b)) h b l)
 
--- none of three tests
-none-of-three : (x y z : Bool) → choose x true (choose y true z) ≡ false → (x ≡ false) × (y ≡ false) × (z ≡ false)
-none-of-three true y z h = absurd (zero-not-one cc)
-none-of-three false true z h = absurd (zero-not-one cc)
-none-of-three false false z h = (refl, refl, h)
+-- neither of two tests
+pub neither : (x y : Bool) → choose x true y ≡ false → (x ≡ false) × (y ≡ false)
+neither true y h = absurd (zero-not-one cc)
+neither false y h = (refl, h)
 
 module _ (n w : ℕ) (file : List ℕ) where
   pub within-strays : (t : ℕ) → Within n w file t → strays n w file t ≡ false
@@ -52,10 +51,11 @@ module _ (n w : ℕ) (file : List ℕ) where
   pub strays-within : (t : ℕ) → strays n w file t ≡ false → Within n w file t
   unfolding strays readStrays carryStrays writeStrays
   strays-within t h =
-      let r = none-of-three (readStrays n w file t) (carryStrays n w file t) (writeStrays n w file t) h in record {
+      let r = neither (readStrays n w file t) _ h in
+      let q = neither (carryStrays n w file t) (writeStrays n w file t) (r .1) in record {
         reads = none-below (cycles n w) w (readAddress n w file t) (r .0);
-        carries = none-below w w (carriedTo n w file t) (r .1);
-        writes = none-below (cycles n w) w (writeAddress n w file t) (r .2);
+        carries = none-below w w (carriedTo n w file t) (q .0);
+        writes = none-below (cycles n w) w (writeAddress n w file t) (q .1);
       }
 
   pub within-result : ((t : ℕ) → t < cycles n w → Within n w file t) → (frame memory : List ℕ)

@@ -1,5 +1,6 @@
 //! Times of the proved library beside the second implementation, in one run: generate, read and step. Each figure is the least of
-//! many runs, in nanoseconds for each word of the frame. Buffers are made once and not cleared between runs.
+//! many runs, in nanoseconds for each word of the frame. Buffers are made once and not cleared between runs. The second implementation's
+//! generating is the one written for speed (`fast`), since the plain one is slow on purpose.
 //!
 //! With arguments it only repeats one call, for a profiler or a counter of instructions: `figures library|second generate|read|step
 //! WIDTH TIMES`, on a random order of 4,096 words.
@@ -86,7 +87,7 @@ macro_rules! calls {
 
 /// The calls of the library, then those of the second implementation.
 fn implementations() -> [[Call; 3]; 2] {
-    [calls!(::rughtena), calls!(::rughtena_tests::second)]
+    [calls!(::rughtena), calls!(::rughtena_tests::fast)]
 }
 
 /// The least times in nanoseconds. The implementations take turns, so that both meet the same state of the machine.

@@ -6,7 +6,7 @@ use mathlib.Core.Path.{_≡_, refl, sym, ap, _∙_}
 use mathlib.Core.List.{List}
 use native.Mathlib.Omega.{arith}
 use borrow.Author.Needs.{needs}
-use lib.ListN.{length, replicate, getD-replicate}
+use lib.ListN.{length}
 use Rattle.limits.specs.Limits.{mostWidth, mostSwitches}
 use Rattle.images.specs.Images.{orderOf}
 use Rattle.bits.specs.Bits.{Bytes}
@@ -20,7 +20,6 @@ use Rattle.tables.proofs.Dims.{cycles-few, lineAt-zero, lineAt-suc}
 use Rattle.packing.specs.Packing.{putLine}
 use Rattle.packing.specs.inner.Plans.{Blank}
 use Rattle.packing.proofs.Plans.{blank-numbered}
-use Rattle.matching.specs.Matching.{unowned}
 use Rattle.generator.specs.inner.Schedule.{Scheduled, Due, Took}
 use Rattle.generator.proofs.Drawings.{scheduled-start}
 use Rattle.generator.proofs.Making.{making-more, plan-ready, held-long, lines-room, set-begun, set-made}
@@ -28,18 +27,18 @@ use Rattle.generator.proofs.generating.put_set.Statement.{statement}
 use Rattle.generator.proofs.generating.put_set.Tie as tie
 
 abbrev Inv-loop : tie.InvT-loop
-Inv-loop images next heads₀ edges₀ shape file₀ owner₀ words₀ reads₀ forward₀ back₀ writes₀ switches₀ writer₀ t₀
-    heads edges file owner words reads forward back writes switches writer t =
+Inv-loop images next heads₀ edges₀ shape file₀ words₀ reads₀ forward₀ back₀ writes₀ switches₀ writer₀ t₀
+    heads edges file words reads forward back writes switches writer t =
     (t ≤ shape .cycles)
     × ((length words ≡ mostWidth) × Blank (shape .width) reads forward back writes × (length switches ≡ mostSwitches))
     × (Open writer × (positionOf writer ≡ lineAt (shape .words) (shape .width) t))
-    × ((lines : ℕ → ℕ → ℕ) × Scheduled (shape .words) (shape .width) (orderOf (length images) images) lines t heads edges owner
+    × ((lines : ℕ → ℕ → ℕ) × Scheduled (shape .words) (shape .width) (orderOf (length images) images) lines t heads edges
     × Written (setBits (shape .words) (shape .width) (orderOf (length images) images) lines) (wholeOf file₀ writer₀) (wholeOf file writer)
     (lineAt (shape .words) (shape .width) t))
 
 abbrev μ-loop : tie.MeasureT-loop
-μ-loop images next heads₀ edges₀ shape file₀ owner₀ words₀ reads₀ forward₀ back₀ writes₀ switches₀ writer₀ t₀
-    heads edges file owner words reads forward back writes switches writer t =
+μ-loop images next heads₀ edges₀ shape file₀ words₀ reads₀ forward₀ back₀ writes₀ switches₀ writer₀ t₀
+    heads edges file words reads forward back writes switches writer t =
     shape .cycles - t
 
 -- ---- the places
@@ -66,7 +65,7 @@ abbrev start : tie.At-loop Inv-loop μ-loop → Start
 start c = entry (begun-loop c)
 
 abbrev loop-words : tie.After-words Inv-loop μ-loop → tie.At-loop Inv-loop μ-loop
-loop-words c = c .before .before .before .before .before .before
+loop-words c = c .before .before .before .before .before
 
 abbrev loop-taken : tie.After-take-line Inv-loop μ-loop → tie.At-loop Inv-loop μ-loop
 loop-taken c = loop-words (c .before)
@@ -124,15 +123,13 @@ loop-holds : tie.Need-loop-holds Inv-loop μ-loop
 loop-holds c =
     let d = c .before .before in
     let s = entry d in
-    let none : ℕ → ℕ → ℕ = λ _ _. 0 in
-    let start-owner : List ℕ = replicate mostWidth unowned in (
+    let none : ℕ → ℕ → ℕ = λ _ _. 0 in (
       omega arith,
       (refl, blank-numbered (w s) (d .before .before .before .numbered .ensures) (d .before .before .numbered2 .ensures), refl),
       (d .begin .ensures .0, d .begin .ensures .1 ∙ sym (lineAt-zero (n s) (w s))),
       (
         none,
-        scheduled-start start-owner none (s .pre .0 .0 .dims) (s .pre .0 .1) (s .pre .1 .1 .0 .1) (s .pre .1 .1 .1) refl
-            (λ k l. getD-replicate {A = ℕ} mostWidth k unowned 0 (omega (arith, s .pre .0 .0 .dims .narrow))),
+        scheduled-start none (s .pre .0 .0 .dims) (s .pre .0 .1) (s .pre .1 .1 .0 .1) (s .pre .1 .1 .1),
         set-begun (n s) (w s) (p s) none (headed d),
       ),
     )
@@ -141,7 +138,7 @@ loop-holds c =
 due : (c : tie.After-words Inv-loop μ-loop)
     → let a = loop-words c in
     let s = start a in
-    Due (n s) (w s) (p s) (a .loop .inv .3 .0) (a .loop .t) (s .args .next .now) (a .loop .heads) (a .loop .edges) (a .loop .owner)
+    Due (n s) (w s) (p s) (a .loop .inv .3 .0) (a .loop .t) (s .args .next .now) (a .loop .heads) (a .loop .edges)
 due c =
     let a = loop-words c in
     let s = start a in
@@ -150,7 +147,7 @@ due c =
       permutes = s .pre .0 .1;
       chained = s .pre .1 .1 .0 .1 .chained;
       lent = s .pre .1 .0 .0;
-      more = omega (arith, c .before .before .before .before .if1 .taken, s .pre .0 .0 .cycles);
+      more = omega (arith, c .before .before .before .if1 .taken, s .pre .0 .0 .cycles);
       scheduled = a .loop .inv .3 .1;
     }
 
@@ -161,8 +158,8 @@ take-line-requires c κs = ((_, _, _, _, due c), loop-words c .loop .inv .1 .0)
 took : (c : tie.After-take-line Inv-loop μ-loop)
     → let a = loop-taken c in
     let s = start a in
-    Took (n s) (w s) (p s) (a .loop .inv .3 .0) (a .loop .t) (c .take-line .last .1 .1 .1 .1 .0) (c .take-line .last .1 .0)
-    (c .take-line .last .1 .1 .0) (c .take-line .last .1 .1 .1 .0)
+    Took (n s) (w s) (p s) (a .loop .inv .3 .0) (a .loop .t) (c .take-line .last .1 .1 .1 .0) (c .take-line .last .1 .0)
+    (c .take-line .last .1 .1 .0)
 took c =
     let a = loop-taken c in
     let s = start a in
@@ -221,7 +218,7 @@ add-t c =
     record { fits = fits }
 
 loop-less : tie.Need-loop-less Inv-loop μ-loop
-loop-less c = omega (arith, taken-plan (plan-switches (put-last c .before)) .before .before .before .before .before .if1 .taken)
+loop-less c = omega (arith, taken-plan (plan-switches (put-last c .before)) .before .before .before .before .if1 .taken)
 
 loop-again : tie.Need-loop-again Inv-loop μ-loop
 loop-again c =
@@ -238,7 +235,7 @@ loop-again c =
     (q .plan-line .last .1 .1 .1 .1 .1 .1 .0)) (a .loop .inv .2 .1) in
     let fits : fileLength (n s) (w s) ≤ length (wholeOf (begun-loop a .begin .last .0) (begun-loop a .begin .result)) =
     omega (arith, s .pre .1 .0 .1, headed (begun-loop a) .long) in (
-      omega (arith, d .before .before .before .before .before .if1 .taken),
+      omega (arith, d .before .before .before .before .if1 .taken),
       (T .long, L .blank, put .3),
       (put .0, omega (arith, put .1, a .loop .inv .2 .1, s .pre .0 .0 .stride, lineAt-suc (n s) (w s) (a .loop .t))),
       (_, T .scheduled, rw placed (making-more (s .pre .0 .0 .dims) (s .pre .0 .1) T L (due (d .before) .more) fits (a .loop .inv .3 .2))),

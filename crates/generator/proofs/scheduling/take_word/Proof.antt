@@ -5,12 +5,6 @@ use borrow.Author.Needs.{needs}
 use Rattle.generator.proofs.scheduling.take_word.Statement.{statement}
 use Rattle.generator.proofs.scheduling.take_word.Tie as tie
 
-element-copy-out-place : tie.Need-element-copy-out-place
-element-copy-out-place c = search needs
-
-cast-place : tie.Need-cast-place
-cast-place c = search needs
-
 mul-place : tie.Need-mul-place
 mul-place c = search needs
 
@@ -38,21 +32,19 @@ mul-heads c = search needs
 element-write-heads : tie.Need-element-write-heads
 element-write-heads c = search needs
 
-release-requires : tie.Need-release-requires
-release-requires c κs = search needs
+cut-requires : tie.Need-cut-requires
+cut-requires c κs = search needs
 
 returns : tie.Need-returns
-returns c = record { head = refl; moved = refl; kept = λ ne. absurd (ne (omega arith)); released = λ _. c .release .ensures }
+returns c = record { head = refl; moved = refl; kept = λ ne. absurd (ne (omega arith)); cut = λ _. c .cut .ensures }
 
 returns-2 : tie.Need-returns-2
-returns-2 c = record { head = refl; moved = refl; kept = λ _. (refl, refl); released = λ e. absurd (omega arith) }
+returns-2 c = record { head = refl; moved = refl; kept = λ _. refl; cut = λ e. absurd (omega arith) }
 
 pub take-word-spec : {M : Type 1} → statement M
 take-word-spec =
     tie.close
     (tie.spec
-    element-copy-out-place
-    cast-place
     mul-place
     add-place
     mul-word
@@ -62,6 +54,6 @@ take-word-spec =
     shared-slice-read-after
     mul-heads
     element-write-heads
-    release-requires
+    cut-requires
     returns
     returns-2)

@@ -1,0 +1,14 @@
+-- `sets::tail` meets its contract.
+use native.Mathlib.Omega.{arith}
+use Rattle.matching.proofs.Members.{tail-in}
+use Rattle.matching.proofs.sets.tail.Statement.{statement}
+use Rattle.matching.proofs.sets.tail.Tie as tie
+
+sub-result : tie.Need-sub-result
+sub-result c = omega (arith, c .pre)
+
+returns : tie.Need-returns
+returns c = tail-in (c .args .set)
+
+pub tail-spec : {M : Type 1} → statement M
+tail-spec = tie.close (tie.spec sub-result returns)
