@@ -37,7 +37,7 @@ extern "C" {
 
 /* The version of this header. RUGHTENA_VERSION is one number, which grows with each version. */
 #define RUGHTENA_VERSION_MAJOR 0
-#define RUGHTENA_VERSION_MINOR 4
+#define RUGHTENA_VERSION_MINOR 5
 #define RUGHTENA_VERSION_PATCH 0
 #define RUGHTENA_VERSION (RUGHTENA_VERSION_MAJOR * 10000 + RUGHTENA_VERSION_MINOR * 100 + RUGHTENA_VERSION_PATCH)
 
@@ -69,10 +69,10 @@ extern "C" {
          ? RUGHTENA_CYCLES(n, w) * (size_t)(w)                                                                                   \
          : (size_t)-1)
 
-/* The scratch words that generating needs, 4 times the padded n and 1,024; where a size_t cannot hold that, the largest size_t. (A comparison
- * in place of the division would make compilers warn where it cannot fail.) */
+/* The scratch words that generating needs, 2 times the padded n and 256; where a size_t cannot hold that, the largest size_t. (A comparison in
+ * place of the division would make compilers warn where it cannot fail.) */
 #define RUGHTENA_GENERATE_SCRATCH(n, w)                                                                                          \
-    (RUGHTENA_FRAME(n, w) / (((size_t)-1 - 1024) / 4 + 1) == 0 ? 4 * RUGHTENA_FRAME(n, w) + 1024 : (size_t)-1)
+    (RUGHTENA_FRAME(n, w) / (((size_t)-1 - 256) / 2 + 1) == 0 ? 2 * RUGHTENA_FRAME(n, w) + 256 : (size_t)-1)
 
 /* The scratch words that reading needs, 2n with the set's n; where a size_t cannot hold that, the largest size_t. */
 #define RUGHTENA_READ_SCRATCH(n) ((size_t)(n) / ((size_t)-1 / 2 + 1) == 0 ? 2 * (size_t)(n) : (size_t)-1)
@@ -172,7 +172,7 @@ typedef struct {
 /* Generates a table set for the permutation of n words that the first n images give. The set and the frames that the card is fed with it
  * have RUGHTENA_FRAME(n, w) words; those from n on leave at their own places.
  * Lent: n images, read; RUGHTENA_SET_LENGTH(n, w) bytes for the file, written; RUGHTENA_GENERATE_SCRATCH(n, w) scratch words, of which the
- * first RUGHTENA_FRAME(n, w) are written.
+ * first RUGHTENA_FRAME(n, w) are written. Lending more scratch alters neither the answer nor the set, and none of it is written.
  * Gives the length of the set; bytes behind it stay, and images behind the first n are not read. For every permutation a set is generated: of all
  * sets that read as it, the one whose read addresses come first, line by line and bank by bank. So the same order gives the same bytes.
  * Refuses 1, 2, 3, 12, then 4 and 5 by rising i. For 4 an image is held to the n given, not to the padded n. */

@@ -27,11 +27,11 @@ HOLDS(padded_none, RUGHTENA_FRAME(0, 3) == 0);
 HOLDS(padded_to_no_width, RUGHTENA_FRAME(12, 0) == 0);
 HOLDS(padded_to_the_largest, RUGHTENA_FRAME((size_t)-2, 2) == (size_t)-2);
 HOLDS(padded_beyond_the_largest, RUGHTENA_FRAME((size_t)-1, 2) == (size_t)-1);
-HOLDS(scratch_of_ten, RUGHTENA_GENERATE_SCRATCH(10, 3) == 4 * 12 + 1024);
-HOLDS(scratch_of_none, RUGHTENA_GENERATE_SCRATCH(0, 3) == 1024 && RUGHTENA_GENERATE_SCRATCH(12, 0) == 1024);
+HOLDS(scratch_of_ten, RUGHTENA_GENERATE_SCRATCH(10, 3) == 2 * 12 + 256);
+HOLDS(scratch_of_none, RUGHTENA_GENERATE_SCRATCH(0, 3) == 256 && RUGHTENA_GENERATE_SCRATCH(12, 0) == 256);
 HOLDS(scratch_beyond_the_largest, RUGHTENA_GENERATE_SCRATCH((size_t)-1, 2) == (size_t)-1);
-HOLDS(most_scratch, RUGHTENA_GENERATE_SCRATCH(((size_t)-1 - 1024) / 4, 1) == (size_t)-4);
-HOLDS(scratch_just_beyond, RUGHTENA_GENERATE_SCRATCH(((size_t)-1 - 1024) / 4 + 1, 1) == (size_t)-1);
+HOLDS(most_scratch, RUGHTENA_GENERATE_SCRATCH(((size_t)-1 - 256) / 2, 1) == (size_t)-2);
+HOLDS(scratch_just_beyond, RUGHTENA_GENERATE_SCRATCH(((size_t)-1 - 256) / 2 + 1, 1) == (size_t)-1);
 HOLDS(most_read_scratch, RUGHTENA_READ_SCRATCH((size_t)-1 / 2) == (size_t)-2);
 HOLDS(read_scratch_just_beyond, RUGHTENA_READ_SCRATCH((size_t)-1 / 2 + 1) == (size_t)-1);
 HOLDS(most_switches, RUGHTENA_SWITCHES(RUGHTENA_MOST_WIDTH) == RUGHTENA_MOST_SWITCHES);
@@ -42,8 +42,8 @@ HOLDS(version_number, RUGHTENA_VERSION == RUGHTENA_VERSION_MAJOR * 10000 + RUGHT
 HOLDS(accepted_is_0, RUGHTENA_ACCEPTED == 0);
 HOLDS(last_number, RUGHTENA_SWITCH_VALUE == 15);
 
-#if RUGHTENA_VERSION < 400
-#error "RUGHTENA_VERSION is no number of the preprocessor, or below 0.4.0"
+#if RUGHTENA_VERSION < 500
+#error "RUGHTENA_VERSION is no number of the preprocessor, or below 0.5.0"
 #endif
 
 static uint16_t images[RUGHTENA_MOST_WORDS], read_images[RUGHTENA_MOST_WORDS];
@@ -99,8 +99,8 @@ static void lengths(void) {
         }
         length_of(RUGHTENA_MOST_WORDS / w * w, w);
     }
-    same("padded, both scratches, length and switches", 10, 3, 12 + 1072 + 20 + 12 + 5, narrow(10, 3));
-    same("two padded, scratch and two lengths", 10, 3, 10 + 12 + 1072 + 12 + 0, narrow_words(10));
+    same("padded, both scratches, length and switches", 10, 3, 12 + 280 + 20 + 12 + 5, narrow(10, 3));
+    same("two padded, scratch and two lengths", 10, 3, 10 + 12 + 280 + 12 + 0, narrow_words(10));
     same("scratch of reading", 12, 3, 24, RUGHTENA_READ_SCRATCH(12));
 }
 
@@ -139,8 +139,8 @@ static void numbers_of_sets(void) {
     same("frame size", 0, 1, RUGHTENA_FRAME_SIZE, rughtena_generate(0, 1, images, 0, file, 3, scratch, room).number);
     same("width", 12, 0, RUGHTENA_WIDTH, rughtena_generate(12, 0, images, 12, file, 3, scratch, room).number);
     same("padded size", 4096, 3, RUGHTENA_PADDED_SIZE, rughtena_generate(4096, 3, images, 4096, file, 3, scratch, room).number);
-    same("out of range", 2, 1, RUGHTENA_OUT_OF_RANGE, rughtena_generate(2, 1, outside, 2, file, 9, scratch, 1032).number);
-    same("repeated", 2, 1, RUGHTENA_REPEATED, rughtena_generate(2, 1, repeated, 2, file, 9, scratch, 1032).number);
+    same("out of range", 2, 1, RUGHTENA_OUT_OF_RANGE, rughtena_generate(2, 1, outside, 2, file, 9, scratch, 260).number);
+    same("repeated", 2, 1, RUGHTENA_REPEATED, rughtena_generate(2, 1, repeated, 2, file, 9, scratch, 260).number);
     rughtena_generate(12, 3, images, 12, file, sizeof file, scratch, room);
     same("file short", 12, 3, RUGHTENA_FILE_SHORT, rughtena_read(file, length - 1, read_images, 12, scratch, 24).number);
     same("file long", 12, 3, RUGHTENA_FILE_LONG, rughtena_read(file, length + 1, read_images, 12, scratch, 24).number);

@@ -89,7 +89,8 @@ pub fn version() -> usize {
 /// The set and the frames that the card is fed with it have [`frame(n, w)`](frame) words; those from `n` on leave at their own places.
 ///
 /// Needed are `n` images, that many bytes of `file` and [`generate_scratch(n, w)`](generate_scratch) words of `scratch`. Bytes behind the set
-/// and images behind the first `n` do not matter and stay. The first [`frame(n, w)`](frame) scratch words may hold anything afterwards.
+/// and images behind the first `n` do not matter and stay. The first [`frame(n, w)`](frame) scratch words may hold anything afterwards, and
+/// all later ones stay; lending more of them alters neither the answer nor the set.
 ///
 /// # Errors
 ///

@@ -80,18 +80,18 @@ pub const fn switches(width: usize) -> usize {
     }
 }
 
-/// The scratch words that [`generate`](crate::generate) needs for `n` words and width `w`: 4 times [`frame(n, w)`](frame) and 1,024. It is
+/// The scratch words that [`generate`](crate::generate) needs for `n` words and width `w`: 2 times [`frame(n, w)`](frame) and 256. It is
 /// `usize::MAX` where a `usize` cannot hold that.
 ///
 /// ```
 /// use rughtena::{generate_scratch, MOST_WORDS};
 ///
 /// static SCRATCH: [u16; generate_scratch(MOST_WORDS, 1)] = [0; generate_scratch(MOST_WORDS, 1)];
-/// assert_eq!(SCRATCH.len(), 4 * 4096 + 1024);
-/// assert_eq!(generate_scratch(10, 3), 4 * 12 + 1024);
+/// assert_eq!(SCRATCH.len(), 2 * 4096 + 256);
+/// assert_eq!(generate_scratch(10, 3), 2 * 12 + 256);
 /// ```
 pub const fn generate_scratch(n: usize, w: usize) -> usize {
-    frame(n, w).saturating_mul(4).saturating_add(1024)
+    frame(n, w).saturating_mul(2).saturating_add(256)
 }
 
 /// The scratch words that [`read`](crate::read) needs for a set of `n` words: 2 times `n`. It is `usize::MAX` where a `usize` cannot hold that.

@@ -372,7 +372,7 @@ pub(crate) fn ordered<'a>(
     if dims.n > MAX_WORDS {
         return refuse(3, 0);
     }
-    if images.len() < n || file.len() < dims.length || scratch.len() < 4 * dims.n + 1024 {
+    if images.len() < n || file.len() < dims.length || scratch.len() < 2 * dims.n + 256 {
         return refuse(12, 0);
     }
     check_images(images, n)?;

@@ -181,14 +181,14 @@ fn refused_extended_orders() {
         both::generate(10, 3, images, &file, &scratch).map(|set| set.len())
     };
     let order = identity(10);
-    assert_eq!(answer(&order, 12, 1072), Ok(12));
-    assert_eq!(answer(&order[..9], 12, 1072), refuse(12, 0));
-    assert_eq!(answer(&order, 11, 1072), refuse(12, 0));
-    assert_eq!(answer(&order, 12, 1071), refuse(12, 0));
+    assert_eq!(answer(&order, 12, 280), Ok(12));
+    assert_eq!(answer(&order[..9], 12, 280), refuse(12, 0));
+    assert_eq!(answer(&order, 11, 280), refuse(12, 0));
+    assert_eq!(answer(&order, 12, 279), refuse(12, 0));
     let mut images = identity(12);
     images.swap(9, 10);
-    assert_eq!(answer(&images[..10], 12, 1072), refuse(4, 9));
-    assert_eq!(answer(&images, 12, 1072), refuse(4, 9));
+    assert_eq!(answer(&images[..10], 12, 280), refuse(4, 9));
+    assert_eq!(answer(&images, 12, 280), refuse(4, 9));
 }
 
 /// Arguments of generating with several faults at once, or with none.

@@ -103,6 +103,29 @@ module _ (n w : ℕ) (images : List ℕ) (room scratch : ℕ) where
       ifLt-cases Three scratch (scratchNeed (padded n w)) _ _ (λ _. short-buffer) λ _ r e three.
       absurd (omega (arith, check-told images n r e, three))
 
+-- ---- the scratch words
+
+module _ (n w : ℕ) (images : List ℕ) (room : ℕ) where
+  -- fewer than the need are refused
+  pub scratch-short : (scratch : ℕ) → Limited n w → padded n w ≤ mostWords → scratch < scratchNeed (padded n w)
+      → checksOf n w images room scratch ≡ Refused BufferShort
+  unfolding checksOf lentTest
+  scratch-short scratch L short few =
+      limit-passes Refused _ L
+      ∙ sym (ifLt-no _ _ _ _ _ short
+      (ifLt-cases (λ (x : Checked). Refused BufferShort ≡ x) (length images) n _ _ (λ _. refl) λ _.
+      ifLt-cases (λ (x : Checked). Refused BufferShort ≡ x) room (fileLength (padded n w) w) _ _ (λ _. refl) λ _.
+      ifLt-yes scratch (scratchNeed (padded n w)) _ _ _ few refl))
+
+  -- from the need on their number is not looked at
+  pub scratch-alike : (scratch other : ℕ) → scratchNeed (padded n w) ≤ scratch → scratchNeed (padded n w) ≤ other
+      → checksOf n w images room scratch ≡ checksOf n w images room other
+  unfolding checksOf lentTest
+  scratch-alike scratch other enough plenty =
+      ap (λ (x : Checked). limitTest n w Refused (ifLt mostWords (padded n w) (Refused PaddedSize)
+      (ifLt (length images) n (Refused BufferShort) (ifLt room (fileLength (padded n w) w) (Refused BufferShort) x))))
+      (sym (ifLt-no _ _ _ _ _ enough refl) ∙ ifLt-no _ _ _ _ _ plenty refl)
+
 -- ---- the call
 
 module _ {n w : ℕ} {images file scratch : List ℕ} where

@@ -19,9 +19,9 @@ use Rattle.generator.specs.declared.Extent.{Extent}
 use Rattle.generator.specs.declared.Generation.{Generation}
 use Rattle.generator.specs.declared.Generation.the-variants.{Written, Refused as Unmade}
 
--- the scratch words that are asked for
+-- "2n + 256 words to lend, with n as extended" (document 02, #107): the scratch words that are asked for
 unfoldable pub scratchNeed : ℕ → ℕ
-scratchNeed n = 4 * n + 1024
+scratchNeed n = 2 * n + 256
 
 -- what an accepted generation returns: the file's length
 abbrev pub extentOf : ℕ → ℕ → Extent

@@ -50,7 +50,7 @@ fn check_lent(
     if room < tables::file_length(tables::shape_of(words, w)) {
         return Checked::Refused(Refusal::BufferShort);
     }
-    if scratch < 4 * words + 1024 {
+    if scratch < 2 * words + 256 {
         return Checked::Refused(Refusal::BufferShort);
     }
     images::check(images, n)

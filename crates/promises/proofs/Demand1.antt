@@ -59,12 +59,12 @@ unfolding refusalReply
 turned r kept = refused (numberOf r) (placeOf r) refl (number-range r .0) (number-range r .1) kept
 
 -- a memory that is not altered
-only-none : {Named : ℕ → Type 0} {xs : List ℕ} → Only Named xs xs
+pub only-none : {Named : ℕ → Type 0} {xs : List ℕ} → Only Named xs xs
 only-none = record { long = refl; others = λ i other. refl }
 
 -- ---- fronts
 
-only-front : {k : ℕ} {before after : List ℕ} → length after ≡ length before → ((i : ℕ) → k ≤ i → getD after i 0 ≡ getD before i 0)
+pub only-front : {k : ℕ} {before after : List ℕ} → length after ≡ length before → ((i : ℕ) → k ≤ i → getD after i 0 ≡ getD before i 0)
     → Only (Front k) before after
 only-front long behind = record { long = long; others = λ i other. behind i (omega arith) }
 

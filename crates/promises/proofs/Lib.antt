@@ -5,5 +5,6 @@ pub mod Idle
 pub mod Examples
 pub mod Extended
 pub mod First
+pub mod Scratch
 pub mod Rule
 pub mod Plain

@@ -107,8 +107,8 @@ pub record Lending : Type 0 where
   -- reading: n and w; the first n images
   pub read : (file images scratch : List ℕ) (answer : Reading) (images′ : List ℕ) → readOutcome answer images′ ≡ readOf file images scratch
       → Ends (readingReply answer) (headerWords file ∷ headerWidth file ∷ []) (memory images images′ (Only (Front (headerWords file))) ∷ [])
-  -- generating: the file's length; as many bytes of the file, and as many scratch words as the padded n, fewer than the 4 for each of its words
-  -- and the 1,024 that are lent
+  -- generating: the file's length; as many bytes of the file, and as many scratch words as the padded n, fewer than the 2 for each of its words
+  -- and the 256 that are lent
   pub generate : (n w : ℕ) (images file scratch : List ℕ) (answer : Generation) (file′ scratch′ : List ℕ)
       → Generates n w images file scratch answer file′ scratch′
       → Ends (generationReply answer) (fileLength (padded n w) w ∷ [])

@@ -84,7 +84,7 @@ marked =
     ∷ asks (switchLines 12 3 set12) (lines switches12)
     ∷ asks (writeLines 12 3 set12) (lines writes12)
     ∷ asks (making 12 3 order12 reads12) (bytes set12)
-    ∷ asks (generating 12 3 order12 12 1072) (says (accepts (12 ∷ [])) [])
+    ∷ asks (generating 12 3 order12 12 280) (says (accepts (12 ∷ [])) [])
     -- set12 on the machine, and its order by the plain rule
     ∷ asks (running set12 24 steps12) (shows shown12)
     ∷ asks (reordering 12 3 order12 steps12) (shows shown12)
@@ -93,9 +93,9 @@ marked =
     ∷ readingRefused (0x00 ∷ 0x60 ∷ 0x30 ∷ 0x0C ∷ 0x0C ∷ 0xA8 ∷ 0x58 ∷ 0x2A ∷ 0x2E ∷ 0xFE ∷ 0xD0 ∷ 0xE1 ∷ []) (replicate 12 0) 24 8 0
     ∷ readingRefused (0x00 ∷ 0x60 ∷ 0x31 ∷ 0x0C ∷ 0x0C ∷ 0xA8 ∷ 0x58 ∷ 0x2A ∷ 0x2E ∷ 0xFE ∷ 0xD0 ∷ 0xE0 ∷ []) (replicate 12 0) 24 7 0
     -- 8, 12 and 13: no words, images that repeat or stray
-    ∷ generatingRefused 0 1 [] 3 1024 1 0
-    ∷ generatingRefused 2 1 (0 ∷ 0 ∷ []) 4 1032 5 1
-    ∷ generatingRefused 2 1 (2 ∷ 0 ∷ []) 4 1032 4 0
+    ∷ generatingRefused 0 1 [] 3 256 1 0
+    ∷ generatingRefused 2 1 (0 ∷ 0 ∷ []) 4 260 5 1
+    ∷ generatingRefused 2 1 (2 ∷ 0 ∷ []) 4 260 4 0
     -- "The longest is 12,291 (n 4,096, width 1)"
     ∷ asks (measuring 4096 1) (long 12291)
     ∷ []
@@ -107,20 +107,20 @@ generatings =
     -- 1 before 2: n 4,097, and n 0 with width 0; 2: width 0, and width 65
     generatingRefused 4097 1 [] 0 0 1 0
     ∷ generatingRefused 0 0 [] 0 0 1 0
-    ∷ generatingRefused 2 0 (0 ∷ 1 ∷ []) 4 1032 2 0
+    ∷ generatingRefused 2 0 (0 ∷ 1 ∷ []) 4 260 2 0
     ∷ generatingRefused 130 65 [] 0 0 2 0
     -- n 4,096 and width 64 pass (12: no memory is lent)
     ∷ generatingRefused 4096 1 [] 0 0 12 0
     ∷ generatingRefused 128 64 [] 0 0 12 0
     -- 12, before 4, for images, file and scratch one short
-    ∷ generatingRefused 2 1 (9 ∷ []) 4 1032 12 0
-    ∷ generatingRefused 2 1 (9 ∷ 1 ∷ []) 3 1032 12 0
-    ∷ generatingRefused 2 1 (9 ∷ 1 ∷ []) 4 1031 12 0
+    ∷ generatingRefused 2 1 (9 ∷ []) 4 260 12 0
+    ∷ generatingRefused 2 1 (9 ∷ 1 ∷ []) 3 260 12 0
+    ∷ generatingRefused 2 1 (9 ∷ 1 ∷ []) 4 259 12 0
     -- the exact need is enough, and an image list longer than needed is read no further
-    ∷ asks (generating 2 1 (1 ∷ 0 ∷ 9 ∷ []) 4 1032) (says (accepts (4 ∷ [])) [])
+    ∷ asks (generating 2 1 (1 ∷ 0 ∷ 9 ∷ []) 4 260) (says (accepts (4 ∷ [])) [])
     -- a 5 at a lower i before a 4 at a higher one, and the other way round
-    ∷ generatingRefused 3 1 (0 ∷ 0 ∷ 9 ∷ []) 5 1036 5 1
-    ∷ generatingRefused 3 1 (0 ∷ 9 ∷ 0 ∷ []) 5 1036 4 1
+    ∷ generatingRefused 3 1 (0 ∷ 0 ∷ 9 ∷ []) 5 262 5 1
+    ∷ generatingRefused 3 1 (0 ∷ 9 ∷ 0 ∷ []) 5 262 4 1
     ∷ []
 
 -- ---- generating at a width that does not divide (document 02, #101)
@@ -139,7 +139,7 @@ straight12 = 0x00 ∷ 0x60 ∷ 0x30 ∷ 0x00 ∷ 0x00 ∷ 0x2A ∷ 0x05 ∷ 0x6A
 abbrev pub extensions : List Example
 extensions =
     -- example 11: accepted, with memory for 12 words; the set is read as 12 words in their places
-    asks (generating 10 3 straight10 12 1072) (says (accepts (12 ∷ [])) [])
+    asks (generating 10 3 straight10 12 280) (says (accepts (12 ∷ [])) [])
     ∷ asks (making 10 3 straight10 ((0 ∷ 0 ∷ 0 ∷ []) ∷ (1 ∷ 1 ∷ 1 ∷ []) ∷ (2 ∷ 2 ∷ 2 ∷ []) ∷ (3 ∷ 3 ∷ 3 ∷ []) ∷ [])) (bytes straight12)
     ∷ asks (reading straight12 (replicate 12 7) 24) (says (accepts (12 ∷ 3 ∷ [])) (tabulate 12 (λ i. i)))
     -- sets of one cycle, with a width above n
@@ -155,13 +155,32 @@ extensions =
     ∷ generatingRefused 4033 64 [] 0 0 12 0
     ∷ generatingRefused 4097 64 [] 0 0 1 0
     -- 12: an image less than n, and a byte and a scratch word less than the padded n needs
-    ∷ generatingRefused 10 3 nine 12 1072 12 0
-    ∷ generatingRefused 10 3 straight10 11 1072 12 0
-    ∷ generatingRefused 10 3 straight10 12 1071 12 0
+    ∷ generatingRefused 10 3 nine 12 280 12 0
+    ∷ generatingRefused 10 3 straight10 11 280 12 0
+    ∷ generatingRefused 10 3 straight10 12 279 12 0
     -- 4 by the n given; images behind n are not looked at
-    ∷ generatingRefused 10 3 (nine ++ (10 ∷ [])) 12 1072 4 9
-    ∷ generatingRefused 10 3 (nine ++ (10 ∷ 9 ∷ 11 ∷ [])) 12 1072 4 9
-    ∷ asks (generating 10 3 (straight10 ++ (0 ∷ 99 ∷ [])) 12 1072) (says (accepts (12 ∷ [])) [])
+    ∷ generatingRefused 10 3 (nine ++ (10 ∷ [])) 12 280 4 9
+    ∷ generatingRefused 10 3 (nine ++ (10 ∷ 9 ∷ 11 ∷ [])) 12 280 4 9
+    ∷ asks (generating 10 3 (straight10 ++ (0 ∷ 99 ∷ [])) 12 280) (says (accepts (12 ∷ [])) [])
+    ∷ []
+
+-- ---- the scratch of generating (document 02, #107): a word less than the need, and the need
+
+abbrev pub scratches : List Example
+scratches =
+    -- of example 4, which has the need above; to lend more alters nothing
+    generatingRefused 12 3 order12 12 279 12 0
+    ∷ asks (generating 12 3 order12 12 1072) (says (accepts (12 ∷ [])) [])
+    -- the padded n is 1, and 64
+    ∷ generatingRefused 1 1 (0 ∷ []) 3 257 12 0
+    ∷ asks (generating 1 1 (0 ∷ []) 3 258) (says (accepts (3 ∷ [])) [])
+    ∷ generatingRefused 1 64 (0 ∷ []) 44 383 12 0
+    ∷ asks (generating 1 64 (0 ∷ []) 44 384) (says (accepts (44 ∷ [])) [])
+    -- 12 before 5, of 12 words and of the most words
+    ∷ generatingRefused 12 3 (replicate 12 0) 12 279 12 0
+    ∷ generatingRefused 12 3 (replicate 12 0) 12 280 5 1
+    ∷ generatingRefused 4096 64 (replicate 4096 0) 8715 8447 12 0
+    ∷ generatingRefused 4096 64 (replicate 4096 0) 8715 8448 5 1
     ∷ []
 
 -- ---- the first of all sets (document 02, #102); example 4 is one too
@@ -331,7 +350,7 @@ steps =
 -- ---- all of them
 
 unfoldable pub examples : List Example
-examples = marked ++ (generatings ++ (extensions ++ (firsts ++ (networks ++ (readings ++ steps)))))
+examples = marked ++ (generatings ++ (extensions ++ (scratches ++ (firsts ++ (networks ++ (readings ++ steps))))))
 
 -- each question, computed, has the answer listed
 abbrev pub ExamplesHold : Type 0

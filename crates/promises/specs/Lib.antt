@@ -4,6 +4,7 @@ pub mod Demand2
 pub mod Demand3
 pub mod Extended
 pub mod First
+pub mod Scratch
 pub mod Rule
 pub mod Plain
 pub mod Questions

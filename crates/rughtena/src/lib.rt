@@ -39,7 +39,7 @@ pub struct ReadAnswer {
 }
 
 // major * 10000 + minor * 100 + patch
-const VERSION: usize = 400;
+const VERSION: usize = 500;
 
 // Generating a table set; the value is the file's length in bytes.
 #[no_mangle]

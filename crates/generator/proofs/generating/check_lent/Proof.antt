@@ -1,6 +1,6 @@
 -- `generating::check_lent` meets its contract: each return stands at its place in the chain of tests.
-use Prim.Native.Nat.{_+_, _*_}
 use mathlib.Core.Path.{_≡_, refl, _∙_}
+use native.Mathlib.Omega.{arith}
 use borrow.Author.Needs.{needs}
 use Rattle.laws.specs.Choice.{ifLt}
 use Rattle.laws.proofs.Choices.{ifLt-yes, ifLt-no}
@@ -31,9 +31,9 @@ start c = c .before .before .before
 measured : (c : tie.After-file-length) {r : Checked}
     → let s = start (c .before) in
     r ≡ ifLt (s .args .room) (c .file-length .result) (Refused BufferShort)
-    (ifLt (s .args .scratch) (4 * s .args .words + 1024) (Refused BufferShort) (checkOf (s .args .images .now) (s .args .n)))
+    (ifLt (s .args .scratch) (scratchNeed (s .args .words)) (Refused BufferShort) (checkOf (s .args .images .now) (s .args .n)))
     → r ≡ lentTest (s .args .n) (s .args .words) (s .args .w) (s .args .images .now) (s .args .room) (s .args .scratch)
-unfolding lentTest scratchNeed
+unfolding lentTest
 measured c h =
     let e = c .file-length .ensures ∙ shape-fileLength (start (c .before) .pre .0) (c .before .shape-of .ensures) in
     ifLt-no _ _ _ _ _ (c .before .before .if1 .left) (rw e at h)
@@ -48,15 +48,19 @@ add-if3 : tie.Need-add-if3
 add-if3 c = search needs
 
 returns-3 : tie.Need-returns-3
-returns-3 c = measured (c .before .before) (ifLt-no _ _ _ _ _ (c .before .if2 .left) (ifLt-yes _ _ _ _ _ (c .if3 .taken) refl))
+unfolding scratchNeed
+returns-3 c =
+    measured (c .before .before)
+    (ifLt-no _ _ _ _ _ (c .before .if2 .left) (ifLt-yes _ _ _ _ _ (omega (arith, c .if3 .taken)) refl))
 
 check-requires : tie.Need-check-requires
 check-requires c κs = search needs
 
 returns-4 : tie.Need-returns-4
+unfolding scratchNeed
 returns-4 c =
     measured (c .before .before .before)
-    (ifLt-no _ _ _ _ _ (c .before .before .if2 .left) (ifLt-no _ _ _ _ _ (c .before .if3 .left) (c .check .ensures)))
+    (ifLt-no _ _ _ _ _ (c .before .before .if2 .left) (ifLt-no _ _ _ _ _ (omega (arith, c .before .if3 .left)) (c .check .ensures)))
 
 pub check-lent-spec : {M : Type 1} → statement M
 check-lent-spec =
