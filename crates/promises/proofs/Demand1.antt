@@ -31,10 +31,9 @@ use Rattle.tables.specs.Generated.{setOf as generatedSet}
 use Rattle.tables.proofs.SetBits.{length-setOf}
 use Rattle.tables.proofs.Form.{form-words, form-width, opened-form}
 use Rattle.reading.proofs.Exact.{read-cases}
-use Rattle.generator.specs.Generating.{checksOf, Generates, generationReply}
-use Rattle.generator.proofs.Checking.{checks-passed}
+use Rattle.generator.specs.Generating.{Generates, generationReply}
+use Rattle.generator.proofs.Checking.{checks-passed, generate-cases}
 use Rattle.generator.specs.declared.Generation.{Generation}
-use Rattle.generator.specs.declared.Generation.the-variants.{Refused as Unmade}
 use Rattle.machine.specs.Step.{leaving, moving, entering, nextClock, advanceOf, saysOf, StepOutcome, stepOutcome, accepted as stepAccepted, stepOf}
 use Rattle.machine.specs.Machine.{clockAfter, stepReply}
 use Rattle.machine.specs.LentClock.{Lent, lent, clocked, lentStep}
@@ -142,23 +141,15 @@ module _ (n w : ℕ) (images file scratch : List ℕ) (answer : Generation) (fil
   abbrev generateMemories : List Memory
   generateMemories = memory file file′ (Only (Front (fileLength m w))) ∷ memory scratch scratch′ (Only (Front m)) ∷ []
 
-  generate-told : (x : Checked) → checksOf n w images (length file) (length scratch) ≡ x
-      → Ends (generationReply answer) (fileLength m w ∷ []) generateMemories
+  generate-ends : Ends (generationReply answer) (fileLength m w ∷ []) generateMemories
   unfolding generationReply
-  generate-told (Unfit r) h =
-      let e = G .refused r h in
-      let a : answer ≡ Unmade r = cc e in
-      let f : file′ ≡ file = cc e in
-      let s : scratch′ ≡ scratch = cc e in
-      rw a (turned r (f, (s, tt)))
-  generate-told Permutation h =
-      let A = G .generated h in
-      let F = A .1 in
+  generate-ends = generate-cases (Ends (generationReply answer) (fileLength m w ∷ []) generateMemories) G
+      (λ r h a f s. rw a (turned r (f, (s, tt)))) λ h a F.
       let p : ℕ → ℕ = orderOf n images in
       let front : Only (Front (fileLength m w)) file file′ =
       rw (F .made .written) (only-replaced (fileLength m w) (generatedSet m w p (F .made .reads)) file (length-setOf m w p (F .made .reads))
       (checks-passed n w images (length file) (length scratch) h .roomy)) in
-      rw (A .0) (accepted refl (front, (only-front (F .scratch-long) (F .scratch-kept), tt)))
+      rw a (accepted refl (front, (only-front (F .scratch-long) (F .scratch-kept), tt)))
 
 -- ---- a step
 
@@ -269,8 +260,7 @@ demand-1 = record {
   set = λ width images values answer values′ e. subst (SetEnds width images values) (sym e) (set-ends width images values);
   follow = λ width values line answer e. subst (FollowEnds width values line) (sym e) (follow-ends width values line);
   read = λ file images scratch answer images′ e. subst (ReadEnds file images scratch) (sym e) (read-ends file images scratch);
-  generate = λ n w images file scratch answer file′ scratch′ G.
-      generate-told n w images file scratch answer file′ scratch′ G (checksOf n w images (length file) (length scratch)) refl;
+  generate = generate-ends;
   step = λ file clock first second words out answer first′ second′ out′ e.
       subst (StepEnds file clock first second words out) (sym e) (step-ends file clock first second words out);
   step-lent = λ file clock first second words out answer clock′ first′ second′ out′ e.

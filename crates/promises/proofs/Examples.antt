@@ -11,8 +11,6 @@ use Rattle.laws.specs.Permutation.{inverse}
 use Rattle.bits.specs.Bits.{digit, bit, field, digits, numberAt, packed}
 use Rattle.refusal.specs.Replies.{refusalReply}
 use Rattle.images.specs.Images.{orderOf, earlier, checkFrom, checkOf}
-use Rattle.images.specs.declared.Checked.{Checked}
-use Rattle.images.specs.declared.Checked.the-variants.{Permutation, Refused as Unfit}
 use Rattle.network.specs.Network.{bitCount, depthOf, leaves}
 use Rattle.network.specs.Setting.{next, rank, least, chosen, setting}
 use Rattle.network.specs.Carried.{carried}
@@ -27,6 +25,7 @@ use Rattle.tables.specs.FirstTest.{portAt, barred, tried, finishes, misses, fir
 use Rattle.reading.specs.Reading.{readFault, writeFault, scanLines, readLines, readOpened, readOf, readingReply}
 use Rattle.generator.specs.Generating.{scratchNeed, lentTest, checksOf, Generates, generationReply}
 use Rattle.generator.specs.declared.Generation.{Generation}
+use Rattle.generator.proofs.Checking.{generate-cases}
 use Rattle.machine.specs.Devices.{run}
 use Rattle.machine.specs.Step.{spot, fresh, nextFrame, nextClock, leaving, moving, entering, advanceOf, saysOf, accepted, bufferTest, clockTest, lineTest, stepLine, stepOpened, stepOf}
 use Rattle.machine.specs.Machine.{said, clockAfter, carded, machine, stepReply}
@@ -49,8 +48,5 @@ examples-hold = refl
 pub generation-answers : (n w : ℕ) (images file scratch : List ℕ) (answer : Generation) (file′ scratch′ : List ℕ)
     → Generates n w images file scratch answer file′ scratch′
     → answer ≡ generationOf (checksOf n w images (length file) (length scratch)) n w
-generation-answers n w images file scratch answer file′ scratch′ G = by (checksOf n w images (length file) (length scratch)) refl
-  where
-    by : (x : Checked) → checksOf n w images (length file) (length scratch) ≡ x → answer ≡ generationOf x n w
-    by Permutation h = G .generated h .0
-    by (Unfit r) h = let e = G .refused r h in cc e
+generation-answers n w images file scratch answer file′ scratch′ G =
+    generate-cases (answer ≡ generationOf (checksOf n w images (length file) (length scratch)) n w) G (λ r h a f s. rw h a) (λ h a F. rw h a)

@@ -2,7 +2,7 @@
 -- answers 3 the test of the padded n did, and n and w had passed theirs. Reading gives the extended order, by demand 2. A place of a frame
 -- from n on is a fixed point's, and the plain rule's f and i for it are the only ones.
 use Prim.Native.Nat.{ℕ, _+_, _*_, _-_, _/_, _%_, _<_, _≤_}
-use mathlib.Core.Path.{_≡_, refl, sym, ap, ap₂, _∙_}
+use mathlib.Core.Path.{_≡_, sym, ap, ap₂, _∙_}
 use mathlib.Core.List.{List}
 use native.Mathlib.Omega.{arith}
 use native.Mathlib.Nat.{div-add-mod', mod-lt}
@@ -13,16 +13,13 @@ use Rattle.laws.proofs.Choices.{zero-not-one}
 use Rattle.laws.proofs.Tabulates.{getD-overwrite}
 use Rattle.refusal.specs.Replies.{Reply, refuses, refusalReply}
 use Rattle.images.specs.Images.{orderOf}
-use Rattle.images.specs.declared.Checked.{Checked}
-use Rattle.images.specs.declared.Checked.the-variants.{Permutation, Refused}
 use Rattle.images.proofs.Orders.{order-listed, order-kept, order-permutes, order-longer}
 use Rattle.tables.specs.Terms.{Limited, cycles, fileLength, padded}
 use Rattle.tables.proofs.Padded.{padded-above, padded-even, padded-least, padded-same}
 use Rattle.reading.specs.Reading.{readOf}
-use Rattle.generator.specs.Generating.{checksOf, Generable, Generates, generationReply}
+use Rattle.generator.specs.Generating.{Generable, Generates, generationReply}
 use Rattle.generator.specs.declared.Generation.{Generation}
-use Rattle.generator.specs.declared.Generation.the-variants.{Refused as Unmade}
-use Rattle.generator.proofs.Checking.{three-longer, longer-three}
+use Rattle.generator.proofs.Checking.{three-longer, longer-three, generate-cases}
 use Rattle.promises.specs.Demand2.{told, toldOf, Lent}
 use Rattle.promises.specs.Plain.{Given}
 use Rattle.promises.specs.Extended.{Extending}
@@ -32,15 +29,10 @@ use Rattle.promises.proofs.Demand2.{demand-2}
 
 module _ (n w : ℕ) (images file scratch : List ℕ) (answer : Generation) (file′ scratch′ : List ℕ)
     (G : Generates n w images file scratch answer file′ scratch′) where
-  abbrev checks : Checked
-  checks = checksOf n w images (length file) (length scratch)
-
-  told-three : (x : Checked) → checks ≡ x → generationReply answer ≡ refuses 3 0 → Limited n w × (mostWords < padded n w)
+  told-three : generationReply answer ≡ refuses 3 0 → Limited n w × (mostWords < padded n w)
   unfolding generationReply refusalReply
-  told-three Permutation h e = absurd (zero-not-one (cc (G .generated h .0)))
-  told-three (Refused r) h e =
-      let a : answer ≡ Unmade r = cc (G .refused r h) in
-      three-longer n w images (length file) (length scratch) r h (cc (ap generationReply a))
+  told-three e = generate-cases (Limited n w × (mostWords < padded n w)) G
+      (λ r h a f s. three-longer n w images (length file) (length scratch) r h (cc (ap generationReply a))) (λ h a F. absurd (zero-not-one cc))
 
   tells-three : Limited n w × (mostWords < padded n w) → generationReply answer ≡ refuses 3 0
   unfolding generationReply refusalReply
@@ -89,7 +81,7 @@ extending = record {
   permutes = λ n w images wide P.
       order-longer n images (padded-above n wide) (order-permutes n images P);
   three = λ n w images file scratch answer file′ scratch′ G. (
-    told-three n w images file scratch answer file′ scratch′ G (checksOf n w images (length file) (length scratch)) refl,
+    told-three n w images file scratch answer file′ scratch′ G,
     tells-three n w images file scratch answer file′ scratch′ G,
   );
   reads-back = read-back;

@@ -23,6 +23,7 @@ use Rattle.tables.proofs.Prefix.{setOf-ext}
 use Rattle.tables.proofs.Firsts.{first-unique, first-same, first-set, first-of-all}
 use Rattle.tables.proofs.FirstTests.{test-first}
 use Rattle.reading.specs.Reading.{readOf}
+use Rattle.generator.specs.Generating.{Filled}
 use Rattle.generator.proofs.Checking.{passed-checks, generable-dims, generable-permutes}
 use Rattle.promises.specs.Demand2.{ReadsAs}
 use Rattle.promises.specs.Questions.{making, bytes, answer, listed}
@@ -39,14 +40,17 @@ module _ {n w : ℕ} {images set : List ℕ} (C : Call n w images set) where
   dims : Dims m w
   dims = generable-dims (C .generable)
 
+  abbrev filled : Filled m w (orderOf n images) (C .file) (C .scratch) (C .outcome .file′) (C .outcome .scratch′)
+  filled = C .outcome .generates .generated (passed-checks (C .generable)) .1
+
   abbrev reads : ℕ → ℕ → ℕ
-  reads = C .generates .generated (passed-checks (C .generable)) .1 .made .reads
+  reads = filled .made .reads
 
   first-reads : First m w (orderOf n images) reads
-  first-reads = C .generates .generated (passed-checks (C .generable)) .1 .made .first
+  first-reads = filled .made .first
 
   whole : set ≡ setOf m w (orderOf n images) reads
-  whole = C .made ∙ front (C .generates .generated (passed-checks (C .generable)) .1)
+  whole = C .made ∙ front filled
 
   -- its read addresses
   stands : (t b : ℕ) → t < cycles m w → b < w → reads t b ≡ readAddress m w set t b

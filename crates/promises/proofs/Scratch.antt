@@ -11,26 +11,20 @@ use Rattle.laws.proofs.Choices.{zero-not-one}
 use Rattle.refusal.specs.Replies.{accepts, refuses, refusalReply}
 use Rattle.refusal.specs.declared.Refusal.the-variants.{BufferShort}
 use Rattle.images.specs.Images.{orderOf}
-use Rattle.images.specs.declared.Checked.{Checked}
-use Rattle.images.specs.declared.Checked.the-variants.{Permutation, Refused}
 use Rattle.tables.specs.Terms.{Limited, fileLength, padded}
 use Rattle.tables.proofs.Firsts.{first-set}
 use Rattle.generator.specs.Generating.{scratchNeed, Generable, checksOf, generationReply}
 use Rattle.generator.specs.declared.Generation.the-variants.{Refused as Unmade}
-use Rattle.generator.proofs.Checking.{checks-passed, passed-checks, generable-dims, scratch-short, scratch-alike}
+use Rattle.generator.proofs.Checking.{checks-passed, passed-checks, generable-dims, scratch-short, scratch-alike, generate-cases}
 use Rattle.promises.specs.Demand1.{Only, Front}
-use Rattle.promises.specs.First.{Call}
-use Rattle.promises.specs.Scratch.{need, Outcome, setIn, LentScratch}
+use Rattle.promises.specs.First.{Outcome, setIn, Call}
+use Rattle.promises.specs.Scratch.{need, LentScratch}
 use Rattle.promises.proofs.Demand1.{only-none, only-front}
 use Rattle.promises.proofs.First.{same-set}
 
 module _ {n w : ℕ} {images file scratch : List ℕ} (C : Outcome n w images file scratch) where
   abbrev m : ℕ
   m = padded n w
-
-  -- the tests of the call
-  abbrev tests : Checked
-  tests = checksOf n w images (length file) (length scratch)
 
   too-few : Limited n w → m ≤ mostWords → length scratch < need n w
       → (generationReply (C .answer) ≡ refuses 12 0) × (C .file′ ≡ file) × (C .scratch′ ≡ scratch)
@@ -51,59 +45,36 @@ module _ {n w : ℕ} {images file scratch : List ℕ} (C : Outcome n w images fi
   -- a call that is accepted has passed the tests, and is one that makes a set
   accepted-call : {values : List ℕ} → generationReply (C .answer) ≡ accepts values → Call n w images (setIn C)
   unfolding generationReply refusalReply
-  accepted-call {values} e = by tests refl
-    where
-      by : (x : Checked) → tests ≡ x → Call n w images (setIn C)
-      by Permutation h = record {
+  accepted-call {values} e = generate-cases (Call n w images (setIn C)) (C .generates)
+      (λ r h a f s.
+      let clash : refusalReply r ≡ accepts values = sym (ap generationReply a) ∙ e in
+      absurd (zero-not-one cc)) (λ h a F. record {
         file = file;
         scratch = scratch;
-        told = C .answer;
-        file′ = C .file′;
-        scratch′ = C .scratch′;
+        outcome = C;
         generable = checks-passed n w images (length file) (length scratch) h;
-        generates = C .generates;
         made = refl;
-      }
-      by (Refused r) h =
-          let o = C .generates .refused r h in
-          let a : C .answer ≡ Unmade r = cc in
-          let clash : refusalReply r ≡ accepts values = sym (ap generationReply a) ∙ e in
-          absurd (zero-not-one cc)
+      })
 
   unwritten : Only (Front m) scratch (C .scratch′)
-  unwritten = by tests refl
-    where
-      by : (x : Checked) → tests ≡ x → Only (Front m) scratch (C .scratch′)
-      by Permutation h =
-          let F = C .generates .generated h .1 in
-          only-front (F .scratch-long) (F .scratch-kept)
-      by (Refused r) h =
-          let o = C .generates .refused r h in
-          let s : C .scratch′ ≡ scratch = cc in
-          rw s only-none
+  unwritten = generate-cases (Only (Front m) scratch (C .scratch′)) (C .generates)
+      (λ r h a f s. rw s only-none) (λ h a F. only-front (F .scratch-long) (F .scratch-kept))
 
 module _ {n w : ℕ} {images file scratch other : List ℕ} (C : Outcome n w images file scratch) (D : Outcome n w images file other)
     (enough : need n w ≤ length scratch) (plenty : need n w ≤ length other) where
-  alike : checksOf n w images (length file) (length other) ≡ tests C
+  alike : checksOf n w images (length file) (length other) ≡ checksOf n w images (length file) (length scratch)
   unfolding scratchNeed
   alike = scratch-alike n w images (length file) (length other) (length scratch) (omega (arith, plenty)) (omega (arith, enough))
 
   end-alike : (C .answer ≡ D .answer) × (C .file′ ≡ D .file′)
-  end-alike = by (tests C) refl
-    where
-      by : (x : Checked) → tests C ≡ x → (C .answer ≡ D .answer) × (C .file′ ≡ D .file′)
-      by (Refused r) h =
-          let o = C .generates .refused r h in
-          let q = D .generates .refused r (alike ∙ h) in
-          (cc, cc)
-      by Permutation h =
-          let A = C .generates .generated h in
-          let B = D .generates .generated (alike ∙ h) in
-          let dims = generable-dims (checks-passed n w images (length file) (length scratch) h) in
-          let set = first-set dims (λ i l. refl) (A .1 .made .first) (B .1 .made .first) in (
-            A .0 ∙ sym (B .0),
-            A .1 .made .written ∙ ap (λ (s : List ℕ). s ++ drop (fileLength (padded n w) w) file) set ∙ sym (B .1 .made .written),
-          )
+  end-alike = generate-cases ((C .answer ≡ D .answer) × (C .file′ ≡ D .file′)) (C .generates)
+      (λ r h a f s. let o = D .generates .refused r (alike ∙ h) in (cc, cc)) λ h a F.
+      let B = D .generates .generated (alike ∙ h) in
+      let dims = generable-dims (checks-passed n w images (length file) (length scratch) h) in
+      let set = first-set dims (λ i l. refl) (F .made .first) (B .1 .made .first) in (
+        a ∙ sym (B .0),
+        F .made .written ∙ ap (λ (s : List ℕ). s ++ drop (fileLength (padded n w) w) file) set ∙ sym (B .1 .made .written),
+      )
 
 pub lent-scratch : LentScratch
 lent-scratch = record {

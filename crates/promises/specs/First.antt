@@ -16,16 +16,24 @@ use Rattle.generator.specs.declared.Generation.{Generation}
 use Rattle.promises.specs.Demand2.{ReadsAs}
 use Rattle.promises.specs.Questions.{making, bytes, answer}
 
--- a call of generating that is accepted, with the set that it made
+-- a call of generating: its answer, and the lent memory afterwards
+pub record Outcome (n w : ℕ) (images file scratch : List ℕ) : Type 0 where
+  pub answer : Generation
+  pub file′ : List ℕ
+  pub scratch′ : List ℕ
+  pub generates : Generates n w images file scratch answer file′ scratch′
+
+-- its set, if it is accepted: as many bytes of the file as the set has
+abbrev pub setIn : {n w : ℕ} {images file scratch : List ℕ} → Outcome n w images file scratch → List ℕ
+setIn {n} {w} C = take (fileLength (padded n w) w) (C .file′)
+
+-- a call that is accepted, with the set that it made
 pub record Call (n w : ℕ) (images set : List ℕ) : Type 0 where
   pub file : List ℕ
   pub scratch : List ℕ
-  pub told : Generation
-  pub file′ : List ℕ
-  pub scratch′ : List ℕ
+  pub outcome : Outcome n w images file scratch
   pub generable : Generable n w images (length file) (length scratch)
-  pub generates : Generates n w images file scratch told file′ scratch′
-  pub made : set ≡ take (fileLength (padded n w) w) file′
+  pub made : set ≡ setIn outcome
 
 pub record SameSet : Type 0 where
   -- generating makes the first set: its read addresses are the first ones, and they and the permutation determine all its bytes

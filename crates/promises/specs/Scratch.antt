@@ -3,30 +3,19 @@
 use Prim.Native.Nat.{ℕ, _+_, _*_, _<_, _≤_}
 use mathlib.Core.Path.{_≡_}
 use mathlib.Core.List.{List, [], _∷_}
-use lib.ListN.{length, getD, take}
+use lib.ListN.{length, getD}
 use Rattle.limits.specs.Limits.{mostWords}
 use Rattle.laws.specs.Permutation.{Permutes}
 use Rattle.refusal.specs.Replies.{accepts, refuses}
 use Rattle.images.specs.Images.{orderOf}
 use Rattle.tables.specs.Terms.{Limited, fileLength, padded}
-use Rattle.generator.specs.Generating.{Generates, generationReply}
-use Rattle.generator.specs.declared.Generation.{Generation}
+use Rattle.generator.specs.Generating.{generationReply}
 use Rattle.promises.specs.Demand1.{Only, Front}
+use Rattle.promises.specs.First.{Outcome, setIn}
 
 -- "2n + 256 words to lend, with n as extended"
 abbrev pub need : ℕ → ℕ → ℕ
 need n w = 2 * padded n w + 256
-
--- a call of generating: its answer, and the lent memory afterwards
-pub record Outcome (n w : ℕ) (images file scratch : List ℕ) : Type 0 where
-  pub answer : Generation
-  pub file′ : List ℕ
-  pub scratch′ : List ℕ
-  pub generates : Generates n w images file scratch answer file′ scratch′
-
--- its set, if it is accepted: as many bytes of the file as the set has
-abbrev pub setIn : {n w : ℕ} {images file scratch : List ℕ} → Outcome n w images file scratch → List ℕ
-setIn {n} {w} C = take (fileLength (padded n w) w) (C .file′)
 
 pub record LentScratch : Type 0 where
   -- below the need, where n, w and the padded n are in range (1, 2 and 3 come first): 12, and nothing is altered
