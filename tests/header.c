@@ -1,6 +1,6 @@
-/* What include/rughtena.h defines, held to what the library answers: padded numbers of words, the lengths of sets, the switch values of
- * networks, the numbers of refusals and their texts. It keeps to C89 and to C++98, since tests/header compiles it under every standard from
- * there on. */
+/* What include/rughtena.h defines, held to what the library answers: padded numbers of words, the lengths of sets and their line bits, the
+ * switch values of networks, the numbers of refusals and their texts. It keeps to C89 and to C++98, since tests/header compiles it under every
+ * standard from there on. */
 #include <rughtena.h>
 #include <stdio.h>
 #include <string.h>
@@ -42,8 +42,8 @@ HOLDS(version_number, RUGHTENA_VERSION == RUGHTENA_VERSION_MAJOR * 10000 + RUGHT
 HOLDS(accepted_is_0, RUGHTENA_ACCEPTED == 0);
 HOLDS(last_number, RUGHTENA_SWITCH_VALUE == 15);
 
-#if RUGHTENA_VERSION < 500
-#error "RUGHTENA_VERSION is no number of the preprocessor, or below 0.5.0"
+#if RUGHTENA_VERSION < 600
+#error "RUGHTENA_VERSION is no number of the preprocessor, or below 0.6.0"
 #endif
 
 static uint16_t images[RUGHTENA_MOST_WORDS], read_images[RUGHTENA_MOST_WORDS];
@@ -60,9 +60,10 @@ static void same(const char *what, size_t first, size_t second, size_t expected,
 }
 
 /* File and scratch of the macros' sizes are enough, an element less of either is refused, and the library answers with the macro's length.
- * The set that is read back has the padded words. */
+ * The set that is read back has the padded words, and in each cycle the macro's bits. */
 static void length_of(size_t n, size_t w) {
     const size_t length = RUGHTENA_SET_LENGTH(n, w), room = RUGHTENA_GENERATE_SCRATCH(n, w);
+    rughtena_read_answer read;
     rughtena_answer made = rughtena_generate(n, w, images, n, file, length - 1, scratch, room);
     same("number with a byte less", n, w, RUGHTENA_BUFFER_SHORT, made.number);
     made = rughtena_generate(n, w, images, n, file, length, scratch, room - 1);
@@ -70,8 +71,10 @@ static void length_of(size_t n, size_t w) {
     made = rughtena_generate(n, w, images, n, file, length, scratch, room);
     same("number of the set", n, w, RUGHTENA_ACCEPTED, made.number);
     same("length of the set", n, w, length, made.value);
-    same("words of the set", n, w, RUGHTENA_FRAME(n, w),
-         rughtena_read(file, length, read_images, RUGHTENA_MOST_WORDS, scratch, RUGHTENA_READ_SCRATCH(RUGHTENA_MOST_WORDS)).words);
+    read = rughtena_read(file, length, read_images, RUGHTENA_MOST_WORDS, scratch, RUGHTENA_READ_SCRATCH(RUGHTENA_MOST_WORDS));
+    same("words of the set", n, w, RUGHTENA_FRAME(n, w), read.words);
+    same("width of the set", n, w, w, read.width);
+    same("line bits of the set", n, w, RUGHTENA_CYCLES(n, w) * RUGHTENA_CYCLE_BITS(n, w), read.line_bits);
 }
 
 /* Arguments of types in which the larger limits cannot be written; a compiler warns where a comparison cannot fail. */
@@ -131,6 +134,16 @@ static void switches(void) {
     }
 }
 
+/* The number that reading the file answers with. An accepted one has 12 words, width 3 and 68 line bits here; a refused one has none of them. */
+static size_t number_of_reading(size_t file_len, size_t images_len) {
+    const rughtena_read_answer read = rughtena_read(file, file_len, read_images, images_len, scratch, 24);
+    const size_t accepted = read.number == RUGHTENA_ACCEPTED;
+    same("words that were read", 12, 3, accepted ? 12 : 0, read.words);
+    same("width that was read", 12, 3, accepted ? 3 : 0, read.width);
+    same("line bits that were read", 12, 3, accepted ? 68 : 0, read.line_bits);
+    return read.number;
+}
+
 /* Which number a call answers for each fault that it can be given here. */
 static void numbers_of_sets(void) {
     const size_t room = RUGHTENA_GENERATE_SCRATCH(12, 3);
@@ -142,30 +155,34 @@ static void numbers_of_sets(void) {
     same("out of range", 2, 1, RUGHTENA_OUT_OF_RANGE, rughtena_generate(2, 1, outside, 2, file, 9, scratch, 260).number);
     same("repeated", 2, 1, RUGHTENA_REPEATED, rughtena_generate(2, 1, repeated, 2, file, 9, scratch, 260).number);
     rughtena_generate(12, 3, images, 12, file, sizeof file, scratch, room);
-    same("file short", 12, 3, RUGHTENA_FILE_SHORT, rughtena_read(file, length - 1, read_images, 12, scratch, 24).number);
-    same("file long", 12, 3, RUGHTENA_FILE_LONG, rughtena_read(file, length + 1, read_images, 12, scratch, 24).number);
-    same("buffer short", 12, 3, RUGHTENA_BUFFER_SHORT, rughtena_read(file, length, read_images, 11, scratch, 24).number);
+    same("file short", 12, 3, RUGHTENA_FILE_SHORT, number_of_reading(length - 1, 12));
+    same("file long", 12, 3, RUGHTENA_FILE_LONG, number_of_reading(length + 1, 12));
+    same("buffer short", 12, 3, RUGHTENA_BUFFER_SHORT, number_of_reading(length, 11));
     file[2] ^= 1;
-    same("header", 12, 3, RUGHTENA_HEADER, rughtena_read(file, length, read_images, 12, scratch, 24).number);
+    same("header", 12, 3, RUGHTENA_HEADER, number_of_reading(length, 12));
 }
 
-/* Faults of lines: the set of example 4 of document 01, which generating makes, with one bit or two flipped. */
+/* Faults of lines, and of the bits that fill the last byte: the set of example 4 of document 01, which generating makes, with one bit or two
+ * flipped. */
 static void numbers_of_lines(void) {
     static const uint8_t example[12] = {0x00, 0x60, 0x30, 0x0c, 0x0c, 0xa8, 0x58, 0x2a, 0x2e, 0xfe, 0xd0, 0xe0};
     static const uint16_t order[12] = {3, 7, 1, 2, 6, 0, 11, 9, 4, 10, 8, 5};
     rughtena_generate(12, 3, order, 12, file, sizeof file, scratch, RUGHTENA_GENERATE_SCRATCH(12, 3));
     same("bytes that differ", 12, 3, 0, memcmp(file, example, sizeof example) != 0);
     memcpy(file, example, sizeof example);
-    same("accepted", 12, 3, RUGHTENA_ACCEPTED, rughtena_read(file, 12, read_images, 12, scratch, 24).number);
+    same("accepted", 12, 3, RUGHTENA_ACCEPTED, number_of_reading(12, 12));
     file[3] = 0xcc;
     file[5] ^= 0x10;
-    same("read address", 12, 3, RUGHTENA_READ_ADDRESS, rughtena_read(file, 12, read_images, 12, scratch, 24).number);
+    same("read address", 12, 3, RUGHTENA_READ_ADDRESS, number_of_reading(12, 12));
     memcpy(file, example, sizeof example);
     file[3] ^= 0x01;
-    same("spare line", 12, 3, RUGHTENA_SPARE_LINE, rughtena_read(file, 12, read_images, 12, scratch, 24).number);
+    same("spare line", 12, 3, RUGHTENA_SPARE_LINE, number_of_reading(12, 12));
     memcpy(file, example, sizeof example);
     file[11] ^= 0x20;
-    same("write address", 12, 3, RUGHTENA_WRITE_ADDRESS, rughtena_read(file, 12, read_images, 12, scratch, 24).number);
+    same("write address", 12, 3, RUGHTENA_WRITE_ADDRESS, number_of_reading(12, 12));
+    memcpy(file, example, sizeof example);
+    file[11] = 0xe1;
+    same("filling bit", 12, 3, RUGHTENA_FILE_LONG, number_of_reading(12, 12));
 }
 
 static void numbers_of_steps(void) {

@@ -26,7 +26,10 @@ pub fn draw(file: &[u8], cycle: usize, bank: Option<usize>) -> Result<Vec<u8>, W
 
 fn drawing(set: &Set, cycle: usize, bank: Option<usize>) -> Vec<u8> {
     let cycles = set.lines.len();
-    let title = format!("{} words, width {}, {cycles} cycles", set.n, set.w);
+    let title = format!(
+        "{} words, width {}, {cycles} cycles, {} line bits",
+        set.n, set.w, set.line_bits
+    );
     let window = Window::of(cycles, cycle);
     let mut svg = Svg::new(&title);
     svg.text(MARGIN, 30, "title", &title);
@@ -75,7 +78,7 @@ mod tests {
     fn colours_and_titles() {
         let svg = drawn(12, 3, 0, None);
         assert!(!svg.contains("hsl("));
-        assert!(svg.contains("<title>12 words, width 3, 4 cycles</title>"));
+        assert!(svg.contains("<title>12 words, width 3, 4 cycles, 68 line bits</title>"));
         assert_eq!(count(&svg, "<title>"), 5);
     }
 
@@ -83,7 +86,7 @@ mod tests {
     #[test]
     fn an_extended_order() {
         let svg = drawn(10, 3, 0, None);
-        assert!(svg.contains("<title>12 words, width 3, 4 cycles</title>"));
+        assert!(svg.contains("<title>12 words, width 3, 4 cycles, 68 line bits</title>"));
         assert_eq!(count(&svg, ">10</text>"), 2);
         assert_eq!(count(&svg, ">11</text>"), 2);
         assert_eq!(count(&svg, ">12</text>"), 0);

@@ -11,6 +11,8 @@ pub struct Set {
     pub w: usize,
     /// Lines of the network.
     pub v: usize,
+    /// The bits of all lines.
+    pub line_bits: usize,
     pub lines: Vec<Line>,
     /// Word i leaves at place images[i].
     pub images: Vec<u16>,
@@ -23,9 +25,10 @@ pub struct Line {
 }
 
 /// What an accepted set reads as.
-pub struct Contents {
+pub struct Reading {
     pub n: usize,
     pub w: usize,
+    pub line_bits: usize,
     pub images: Vec<u16>,
 }
 
@@ -91,24 +94,30 @@ pub fn header(file: &[u8]) -> (usize, usize, usize) {
 }
 
 /// Has the library read a set.
-pub fn read(file: &[u8]) -> Result<Contents, Refusal> {
+pub fn read(file: &[u8]) -> Result<Reading, Refusal> {
     let mut images = vec![0; MOST_WORDS];
     let scratch = vec![0; read_scratch(MOST_WORDS)];
-    let (n, w) = rughtena::read(file, &mut images, &scratch)?;
-    images.truncate(n);
-    Ok(Contents { n, w, images })
+    let contents = rughtena::read(file, &mut images, &scratch)?;
+    images.truncate(contents.words);
+    Ok(Reading {
+        n: contents.words,
+        w: contents.width,
+        line_bits: contents.line_bits,
+        images,
+    })
 }
 
 impl Set {
     pub fn of(file: &[u8]) -> Result<Set, Wrong> {
-        let Contents { n, w, images } = read(file).map_err(|refusal| set_refused(refusal, file))?;
-        let shape = Shape::of(n, w);
+        let reading = read(file).map_err(|refusal| set_refused(refusal, file))?;
+        let shape = Shape::of(reading.n, reading.w);
         Ok(Set {
-            n,
-            w,
+            n: reading.n,
+            w: reading.w,
             v: shape.v,
+            line_bits: reading.line_bits,
             lines: shape.lines(file),
-            images,
+            images: reading.images,
         })
     }
 }

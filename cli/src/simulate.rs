@@ -23,14 +23,14 @@ pub struct Card {
 
 impl Card {
     pub fn of(set: Vec<u8>) -> Result<Card, Wrong> {
-        let contents = set::read(&set).map_err(|refusal| set_refused(refusal, &set))?;
+        let reading = set::read(&set).map_err(|refusal| set_refused(refusal, &set))?;
         Ok(Card {
             set,
-            w: contents.w,
+            w: reading.w,
             clock: Clock::default(),
-            first: vec![0; 2 * contents.n],
-            second: vec![0; 2 * contents.n],
-            out: vec![0; contents.w],
+            first: vec![0; 2 * reading.n],
+            second: vec![0; 2 * reading.n],
+            out: vec![0; reading.w],
         })
     }
 

@@ -1,7 +1,9 @@
 //! Generates a set for document 002's order of 12 words, reads it back, and steps four frames through the card. WIDTH may be any width from
 //! 1 to 64: the set and its frames have PADDED words, of which those behind the order keep their places.
 //! Run: cargo run --example reorder
-use rughtena::{frame, generate, generate_scratch, read, set_length, step, Clock, Refusal, Said};
+use rughtena::{
+    frame, generate, generate_scratch, read, set_length, step, Clock, Contents, Refusal, Said,
+};
 
 const ORDER: [u16; 12] = [3, 7, 1, 2, 6, 0, 11, 9, 4, 10, 8, 5];
 const WIDTH: usize = 3;
@@ -20,7 +22,7 @@ fn main() -> Result<(), Refusal> {
     println!("a set of {length} bytes");
 
     let mut images = [0; PADDED];
-    let (words, width) = read(&set, &mut images, &scratch)?;
+    let Contents { words, width, .. } = read(&set, &mut images, &scratch)?;
     println!("reads as {words} words, width {width}: {}", row(&images));
 
     let (mut first, mut second) = ([0; 2 * PADDED], [0; 2 * PADDED]);

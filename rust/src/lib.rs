@@ -21,7 +21,8 @@
 //! generate(12, 3, &order, &mut file, &mut [0; generate_scratch(12, 3)])?;
 //!
 //! let mut images = [0; 12];
-//! assert_eq!(read(&file, &mut images, &[0; read_scratch(12)])?, (12, 3));
+//! let contents = read(&file, &mut images, &[0; read_scratch(12)])?;
+//! assert_eq!((contents.words, contents.width), (12, 3));
 //! assert_eq!(images, order);
 //! # Ok(())
 //! # }
@@ -38,6 +39,21 @@ pub use sizes::{
     frame, generate_scratch, read_scratch, set_length, switches, LONGEST_SET, MOST_SWITCHES,
     MOST_WIDTH, MOST_WORDS,
 };
+
+/// What an accepted reading says of a table set, beside the images.
+///
+/// c = n / w is the number of cycles in a frame, a the bits of an address, the least whole number with 2^a at least c, and B the switch bits of the
+/// network, [`switches(w)`](switches).
+#[derive(Clone, Copy, Debug, PartialEq, Eq)]
+#[non_exhaustive]
+pub struct Contents {
+    /// n, the words of a frame.
+    pub words: usize,
+    /// w, the words of a cycle.
+    pub width: usize,
+    /// The line bits that were read, c(2wa + B). The 24 bits of the header and the filling bits are not counted.
+    pub line_bits: usize,
+}
 
 /// What an accepted step says.
 #[derive(Clone, Copy, Debug, PartialEq, Eq)]
@@ -122,7 +138,8 @@ pub fn version() -> usize {
 /// generate(2, 3, &[1, 0], &mut file, &mut [0; generate_scratch(2, 3)])?;
 ///
 /// let mut images = [0; WORDS];
-/// assert_eq!(read(&file, &mut images, &[0; read_scratch(WORDS)])?, (3, 3));
+/// let contents = read(&file, &mut images, &[0; read_scratch(WORDS)])?;
+/// assert_eq!((contents.words, contents.width), (3, 3));
 /// assert_eq!(images, [1, 0, 2]);
 /// # Ok::<(), Refusal>(())
 /// ```
@@ -137,11 +154,12 @@ pub fn generate(
     raw::generate(n, w, images, file, scratch).value()
 }
 
-/// Reads a table set, and gives its n, a padded one, and w. `file` has the bytes of the set and no others. Word i leaves at place
-/// `images[i]`.
+/// Reads a table set, and gives its n, a padded one, its w and the number of its line bits. `file` has the bytes of the set and no others.
+/// Word i leaves at place `images[i]`.
 ///
 /// Needed are n words of `images`, of which the first n are written, and [`read_scratch(n)`](read_scratch) words of `scratch`, which are
-/// not written. A file in the form of a table set is accepted exactly when it performs a permutation.
+/// not written. A file in the form of a table set is accepted exactly when it performs a permutation. Each line bit is read once: one pass tests
+/// the lines and gathers their images, which are written only after the last line has passed.
 ///
 /// # Errors
 ///
@@ -154,14 +172,16 @@ pub fn generate(
 ///
 /// let set = [0x00, 0x10, 0x20, 0x80];
 /// let mut images = [0; 2];
-/// assert_eq!(read(&set, &mut images, &[0; read_scratch(2)]), Ok((2, 2)));
+/// let contents = read(&set, &mut images, &[0; read_scratch(2)])?;
+/// assert_eq!((contents.words, contents.width, contents.line_bits), (2, 2, 1));
 /// assert_eq!(images, [1, 0]);
 ///
 /// let refusal = read(&set[..3], &mut images, &[0; read_scratch(2)]).unwrap_err();
 /// assert_eq!(refusal.number, Refusal::FILE_SHORT);
+/// # Ok::<(), Refusal>(())
 /// ```
 #[inline]
-pub fn read(file: &[u8], images: &mut [u16], scratch: &[u16]) -> Result<(usize, usize), Refusal> {
+pub fn read(file: &[u8], images: &mut [u16], scratch: &[u16]) -> Result<Contents, Refusal> {
     raw::read(file, images, scratch).contents()
 }
 

@@ -1,6 +1,6 @@
 //! The calls with their answers as integers, as C gets them. The functions of the same names in the crate's root say what each is lent and
 //! what it refuses.
-use crate::{Clock, Refusal, Said};
+use crate::{Clock, Contents, Refusal, Said};
 
 /// An accepted call has number 0 and its value, a refused one the refusal's number and place.
 #[repr(C)]
@@ -12,7 +12,7 @@ pub struct Answer {
     pub value: usize,
 }
 
-/// An accepted reading has number and place 0, n and w. A refused one has n and w 0.
+/// An accepted reading has number and place 0, n, w and the line bits that were read. A refused one has 0 for all three.
 #[repr(C)]
 #[derive(Clone, Copy, Debug, PartialEq, Eq)]
 pub struct ReadAnswer {
@@ -24,6 +24,8 @@ pub struct ReadAnswer {
     pub words: usize,
     /// w.
     pub width: usize,
+    /// The line bits that were read, c(2wa + B).
+    pub line_bits: usize,
 }
 
 extern "C" {
@@ -93,11 +95,15 @@ impl Answer {
 }
 
 impl ReadAnswer {
-    /// n and w, or the refusal.
+    /// n, w and the line bits, or the refusal.
     #[inline]
-    pub fn contents(self) -> Result<(usize, usize), Refusal> {
+    pub fn contents(self) -> Result<Contents, Refusal> {
         match self.number {
-            0 => Ok((self.words, self.width)),
+            0 => Ok(Contents {
+                words: self.words,
+                width: self.width,
+                line_bits: self.line_bits,
+            }),
             number => Err(Refusal {
                 number,
                 place: self.place,

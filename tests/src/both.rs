@@ -3,7 +3,7 @@
 //! integer by integer, as C gets them.
 use crate::lent::Lent;
 use crate::orders::Random;
-use crate::second::{self, Dims};
+use crate::second::{self, Contents, Dims};
 use crate::{generate_scratch, Clock, Refusal, Said};
 use rughtena::raw::{self, Answer, ReadAnswer};
 
@@ -17,17 +17,32 @@ fn integers(answer: Result<usize, Refusal>) -> Answer {
 }
 
 /// The integers of a reading.
-fn read_integers(answer: Result<(usize, usize), Refusal>) -> ReadAnswer {
-    let (number, place, words, width) = match answer {
-        Ok((words, width)) => (0, 0, words, width),
-        Err(refusal) => (refusal.number, refusal.place, 0, 0),
-    };
-    ReadAnswer {
-        number,
-        place,
-        words,
-        width,
+fn read_integers(answer: Result<Contents, Refusal>) -> ReadAnswer {
+    match answer {
+        Ok(Contents { n, w, line_bits }) => ReadAnswer {
+            number: 0,
+            place: 0,
+            words: n,
+            width: w,
+            line_bits,
+        },
+        Err(Refusal { number, place }) => ReadAnswer {
+            number,
+            place,
+            words: 0,
+            width: 0,
+            line_bits: 0,
+        },
     }
+}
+
+/// What the crate makes of those integers, in the second implementation's form.
+fn read_contents(answer: ReadAnswer) -> Result<Contents, Refusal> {
+    answer.contents().map(|contents| Contents {
+        n: contents.words,
+        w: contents.width,
+        line_bits: contents.line_bits,
+    })
 }
 
 /// The value by which a step says what it did: 0 for `filling`, 1 for written words.
@@ -75,18 +90,18 @@ pub fn make(n: usize, w: usize, images: &[u16], random: &mut Random) -> Result<V
     generate(n, w, images, &file, &scratch)
 }
 
-/// Reading; answers with n, w and the images.
+/// Reading; answers with what was read and the images. A refused reading gives C no count.
 pub fn read(
     file: &[u8],
     images: &Lent<u16>,
     scratch: &Lent<u16>,
-) -> Result<(usize, usize, Vec<u16>), Refusal> {
+) -> Result<(Contents, Vec<u16>), Refusal> {
     let mut images = images.clone();
     let mut other_images = images.clone();
     let answer = raw::read(file, images.part(), scratch.now());
     let expected = second::read(file, other_images.part(), scratch.now());
     assert_eq!(answer, read_integers(expected));
-    assert_eq!(answer.contents(), expected);
+    assert_eq!(read_contents(answer), expected);
     assert_eq!(images, other_images);
     scratch.untouched();
     match expected {
@@ -94,9 +109,9 @@ pub fn read(
             images.untouched();
             Err(refusal)
         }
-        Ok((n, w)) => {
-            images.kept_from(n);
-            Ok((n, w, images.now()[..n].to_vec()))
+        Ok(contents) => {
+            images.kept_from(contents.n);
+            Ok((contents, images.now()[..contents.n].to_vec()))
         }
     }
 }

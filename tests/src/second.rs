@@ -64,6 +64,8 @@ struct Take<'a> {
     next: usize,
     window: u64,
     held: usize,
+    /// The bits handed out.
+    taken: usize,
 }
 
 impl<'a> Take<'a> {
@@ -73,8 +75,11 @@ impl<'a> Take<'a> {
             next: bit / 8,
             window: 0,
             held: 0,
+            taken: 0,
         };
         take.bits(bit % 8);
+        // those were passed over
+        take.taken = 0;
         take
     }
 
@@ -88,6 +93,7 @@ impl<'a> Take<'a> {
             self.held += 8;
         }
         self.held -= count;
+        self.taken += count;
         (self.window >> self.held & ((1u64 << count) - 1)) as u16
     }
 }
@@ -467,7 +473,16 @@ impl Line {
     }
 }
 
-pub fn read(file: &[u8], images: &mut [u16], scratch: &[u16]) -> Result<(usize, usize), Refusal> {
+/// What reading gives beside the images.
+#[derive(Clone, Copy, Debug, PartialEq, Eq)]
+pub struct Contents {
+    pub n: usize,
+    pub w: usize,
+    /// The bits taken from the file behind its header, counted as they were taken.
+    pub line_bits: usize,
+}
+
+pub fn read(file: &[u8], images: &mut [u16], scratch: &[u16]) -> Result<Contents, Refusal> {
     let dims = open(file)?;
     if images.len() < dims.n || scratch.len() < 2 * dims.n {
         return refuse(12, 0);
@@ -500,7 +515,11 @@ pub fn read(file: &[u8], images: &mut [u16], scratch: &[u16]) -> Result<(usize, 
         }
     }
     images[..dims.n].copy_from_slice(&gathered[..dims.n]);
-    Ok((dims.n, dims.w))
+    Ok(Contents {
+        n: dims.n,
+        w: dims.w,
+        line_bits: take.taken,
+    })
 }
 
 /// Marks an address of a bank, if it is in the frame and not yet marked.

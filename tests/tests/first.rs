@@ -3,7 +3,7 @@
 use rughtena_tests::both::{self, make};
 use rughtena_tests::lent::Lent;
 use rughtena_tests::orders::{all, bit_reversal, every_width, identity, reversal, stride, Random};
-use rughtena_tests::second::{extended, inspect, set_with, Dims};
+use rughtena_tests::second::{extended, inspect, set_with, Contents, Dims};
 use rughtena_tests::{generate_scratch, MOST_WIDTH, MOST_WORDS};
 use std::collections::BTreeMap;
 
@@ -262,7 +262,10 @@ fn every_table_is_read() {
                 let whole = extended(&order, w);
                 let images = Lent::words(&mut random, whole.len());
                 let scratch = Lent::words(&mut random, 2 * whole.len());
-                let expected = Ok((whole.len(), w, whole.to_vec()));
+                let n = whole.len();
+                let dims = Dims::new(n, w);
+                let line_bits = dims.c * dims.line;
+                let expected = Ok((Contents { n, w, line_bits }, whole.to_vec()));
                 for table in &tables {
                     if ports_differ(w, &whole, table) {
                         let set = set_with(&whole, w, table);

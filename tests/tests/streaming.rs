@@ -23,7 +23,10 @@ fn generated(w: usize, order: &[u16]) -> Vec<u8> {
 fn reads_as(w: usize, order: &[u16], file: &[u8]) {
     let n = order.len();
     let mut images = vec![0xffff; n];
-    assert_eq!(card::read(file, &mut images, &vec![0; 2 * n]), Ok((n, w)));
+    let contents = card::read(file, &mut images, &vec![0; 2 * n]).expect("the set is accepted");
+    assert_eq!((contents.words, contents.width), (n, w));
+    let dims = Dims::new(n, w);
+    assert_eq!(contents.line_bits, dims.c * dims.line);
     assert_eq!(images, order);
 }
 

@@ -1,16 +1,17 @@
 -- Bits and fields of a list of bytes. A bit is a digit of a byte, so a list of bytes is known by its bits (`bits-ext`), and a field by its
--- own (`field-cong`, `field-digits`). `putField` changes the bits of its field and no others: what was put is read back, and every field
+-- own (`field-cong`, `field-digits`). Bytes in a row are a field too, and a field is cut out of the eight bytes from its first on by shifts
+-- (`field-shifts`). `putField` changes the bits of its field and no others: what was put is read back, and every field
 -- beside it stays. Assumes nothing.
 use Prim.Native.Nat.{ℕ, zero, suc, _+_, _-_, _*_, _/_, _%_, _^_, _<_, _≤_}
 use mathlib.Core.List.{List}
 use mathlib.Core.Logic.{_≢_, _⊎_, inl, inr, ⊎-elim}
 use mathlib.Core.Path.{_≡_, refl, sym, ap, ap₂, _∙_}
 use native.Mathlib.Decide.{ℕ-discrete, decLt}
-use native.Mathlib.Nat.{add-suc, add-zero, mod-eq-of-lt, mod-one, mul-assoc, pow-suc, zero-div}
+use native.Mathlib.Nat.{add-suc, add-zero, lt-of-lt-of-le, mod-eq-of-lt, mod-one, mul-assoc, pow-suc, zero-div}
 use native.Mathlib.Numerals.{add-one}
 use native.Mathlib.Omega.{arith}
 use lib.ListN.{length, getD, set, take, length-set, List·getD-eq-default}
-use lib.Pow.{mod-pow-add}
+use lib.Pow.{high, low, mod-pow-add, pow-add, pow-mono, pow-pos, shl-shr, shr-shr}
 use lib.Seq.{ext-getD, getD-take, getD-set-same, getD-set-other, set-out}
 use Rattle.bits.specs.Bits.{Bytes, digit, withDigits, bit, field, putBit, putField}
 use Rattle.bits.proofs.Digits.{digit-lt, digit-zero, digit-div, digit-high, digits-ext, digit-withDigits-inside, digit-withDigits-below, digit-withDigits-above, withDigits-lt}
@@ -114,6 +115,75 @@ field-byte xs f at w l e = field-digits xs at w (getD xs f 0) digits
     digits j h =
         let z : 8 * f + 7 - (at + j) ≡ w - suc j = omega arith in
         rw z at (bit-byte xs f (at + j) (omega arith) (omega arith))
+
+-- A field is the middle of a wider one, which has k more bits before it and s behind it.
+pub field-inside : (xs : List ℕ) (at k w s : ℕ) → field xs (at + k) w ≡ field xs at (k + w + s) / 2 ^ s % 2 ^ w
+field-inside xs at k w s =
+    sym
+    (rw (field-append xs at (k + w) s, high (field xs at (k + w)) s (field-lt xs (at + (k + w)) s), field-append xs at k w)
+    (low (field xs at k) w (field-lt xs (at + k) w)))
+
+-- k bytes in a row are one number, a field; the next byte makes it 256 times as large and is added.
+pub field-next-byte : {xs : List ℕ} → Bytes xs → (f k : ℕ)
+    → field xs (8 * f) (8 * k + 8) ≡ field xs (8 * f) (8 * k) * 256 + getD xs (f + k) 0
+field-next-byte {xs} bx f k =
+    field-append xs (8 * f) (8 * k) 8
+    ∙ ap (λ (x : ℕ). field xs (8 * f) (8 * k) * 256 + x)
+    (field-byte xs (f + k) (8 * f + 8 * k) 8 (omega arith) (omega arith) ∙ mod-eq-of-lt (bx .byte (f + k)))
+
+-- Fewer than eight bytes have at most 56 digits.
+pub field-bytes-lt : (xs : List ℕ) (at k : ℕ) → k < 8 → field xs at (8 * k) < 2 ^ 56
+field-bytes-lt xs at k h =
+    let short : 8 * k ≤ 56 = omega arith in
+    lt-of-lt-of-le (field-lt xs at (8 * k)) (pow-mono short)
+
+-- A field past the end is 0.
+pub field-past : (xs : List ℕ) (at w : ℕ) → 8 * length xs ≤ at → field xs at w ≡ 0
+unfolding field
+field-past xs at zero h = refl
+field-past xs at (suc w) h = omega (arith, field-past xs at w h, bit-past xs (at + w) (omega arith))
+
+-- The first bits of a field.
+pub field-front : (xs : List ℕ) (at w r : ℕ) → field xs at (w + r) / 2 ^ r ≡ field xs at w
+field-front xs at w r = rw (field-append xs at w r) (high (field xs at w) r (field-lt xs (at + w) r))
+
+-- Eight bytes that are shifted up by k, of 64 digits: the bits from bit k on, with zeros behind them.
+eight-shifted : (xs : List ℕ) (s k m : ℕ) → k + m ≡ 64 → field xs (8 * s) 64 * 2 ^ k % 2 ^ 64 ≡ field xs (8 * s + k) m * 2 ^ k
+eight-shifted xs s k m all =
+    let eight = field xs (8 * s) 64 in
+    let all′ : m + k ≡ 64 = omega arith in
+    let parts : eight ≡ field xs (8 * s) k * 2 ^ m + field xs (8 * s + k) m = rw all at (field-append xs (8 * s) k m) in
+    let lowest : eight * 2 ^ k % 2 ^ k ≡ 0 = rw add-zero at (low eight k {lo = 0} (pow-pos k)) in
+    let last : eight % 2 ^ m ≡ field xs (8 * s + k) m = rw parts (low (field xs (8 * s) k) m (field-lt xs (8 * s + k) m)) in
+    rw all′ at (mod-pow-add (eight * 2 ^ k) m k) ∙ rw (shl-shr eight k, last, lowest) (omega arith)
+
+-- A field that begins in the eight bytes from byte s on is cut out of their number by shifts, where it ends in them or the list does.
+pub field-shifts : (xs : List ℕ) (s k w : ℕ) → k < 64 → w ≤ 57 → (k + w ≤ 64) ⊎ (length xs ≤ s + 8)
+    → field xs (8 * s) 64 * 2 ^ k % 2 ^ 64 / 2 / 2 ^ (63 - w) ≡ field xs (8 * s + k) w
+field-shifts xs s k w small narrow ends =
+    shr-shr (field xs (8 * s) 64 * 2 ^ k % 2 ^ 64) 1 (63 - w)
+    ∙ rw (eight-shifted xs s k (64 - k) (omega arith)) (by-end (decLt 64 (k + w)))
+  where
+    by-end : Dec (64 < k + w) → field xs (8 * s + k) (64 - k) * 2 ^ k / 2 ^ (1 + (63 - w)) ≡ field xs (8 * s + k) w
+    by-end (no inside) =
+        let r = 64 - k - w in
+        let down : 1 + (63 - w) ≡ k + r = omega arith in
+        let front : w + r ≡ 64 - k = omega arith in
+        rw (down, ← shr-shr (field xs (8 * s + k) (64 - k) * 2 ^ k) k r, shl-shr (field xs (8 * s + k) (64 - k)) k)
+        (rw front at (field-front xs (8 * s + k) w r))
+    by-end (yes past) =
+        let d = w - (64 - k) in
+        let up : k ≡ d + (1 + (63 - w)) = omega arith in
+        let all : 64 - k + d ≡ w = omega arith in
+        let end : length xs ≤ s + 8 = ⊎-elim (λ l. absurd (omega arith)) (λ l. l) ends in
+        let at = 8 * s + k in
+        let e = 1 + (63 - w) in
+        let inside = field xs at (64 - k) in
+        let none : field xs (at + (64 - k)) d ≡ 0 = field-past xs (at + (64 - k)) d (omega arith) in
+        let raised : inside * 2 ^ k ≡ inside * 2 ^ d * 2 ^ e =
+        ap (λ (z : ℕ). inside * 2 ^ z) up ∙ rw (pow-add 2 d e) (sym (mul-assoc inside (2 ^ d) (2 ^ e))) in
+        let whole : field xs at w ≡ inside * 2 ^ d = rw all at (field-append xs at (64 - k) d) ∙ rw none (omega arith) in
+        ap (λ (x : ℕ). x / 2 ^ e) raised ∙ shl-shr (inside * 2 ^ d) e ∙ sym whole
 
 -- ---- one bit is put
 

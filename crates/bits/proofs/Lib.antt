@@ -7,3 +7,4 @@ pub mod Stores
 pub mod Weights
 pub mod Walking
 pub mod Packed
+pub mod OnePass

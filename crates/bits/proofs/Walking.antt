@@ -1,5 +1,5 @@
 -- What the walks over a reader share: its type at the one lifetime of a signature, with the laws that a walk asks of it; what is had at exit
--- of each kind of parameter; and three steps: a number's facts, the return from a call, the end of a local.
+-- of each kind of parameter; and the steps: what a number and what a cursor owns, the return from a call, the end of a local.
 -- The definitions assume nothing; the laws and the steps take `Given`.
 use Prim.Native.Nat.{ℕ, zero, _<_, _^_}
 use mathlib.Core.Path.{_≡_, refl, subst}
@@ -29,7 +29,10 @@ use denote.Struct.Laws as LL
 use denote.Triple.Clauses.{Ended, Lasts, lasts}
 use denote.Triple.Entry.{Args}
 use denote.Triple.Walked.{Stay, Goes, stay-none, stay-none-slice, goes-none, goes-none-slice}
+use Rattle.bits.specs.declared.reader.Cursor.{Cursor}
 use Rattle.bits.specs.declared.reader.Reader.{Reader}
+use Rattle.bits.proofs.reader.Cursor as Cur
+use Rattle.bits.proofs.reader.Cursor.Laws as Cur′
 use Rattle.bits.proofs.reader.Reader as T
 use Rattle.bits.proofs.reader.Reader.Laws as T′
 
@@ -52,12 +55,29 @@ module _ (κs : Lfts 1) where
       → Holds (hasTy (T′.mir (named 0)) v) × WT v
   typed 𝓤 H A W d v is = LL.lawful Kind kind-laws 𝓤 H A W .typed d (v ∷ []) is .0
 
+-- both numbers of a cursor have at most 64 binary digits, so a machine value has them
+pub record Fits (c : Cursor) : Type 0 where
+  pub at : c .at < 2 ^ 64
+  pub handed : c .handed < 2 ^ 64
+
+pub cursor-fits : (c : Cursor) (vs : List Val) → Is Cur.the-row c vs → Fits c
+cursor-fits c vs is = record { at = is .1 .1 .0 .1; handed = is .1 .1 .1 .0 .1 }
+
+pub cursor-is : (c : Cursor) → Fits c → Is Cur.the-row c (Cur′.lowered c ∷ [])
+cursor-is c fits = LL.owes Cur.the-type Cur′.the-laws c ((refl, fits .at), ((refl, fits .handed), tt))
+
+pub cursor-typed : (c : Cursor) → Fits c → WT (Cur′.lowered c)
+cursor-typed c fits = (record { fits = fits .at }, (record { fits = fits .handed }, tt))
+
 -- ---- parameters at exit: each is owned as it was passed
 abbrev pub reader-stay : Stay {n = 1} (plain Row) yes
 reader-stay = stay-none Row yes
 
 abbrev pub number-stay : Stay {n = 1} (plain (λ _. usize)) yes
 number-stay = stay-none (λ _. usize) yes
+
+abbrev pub cursor-stay : Stay {n = 1} (plain (λ _. Cur.the-row)) yes
+cursor-stay = stay-none (λ _. Cur.the-row) yes
 
 abbrev pub bytes-stay : Stay {n = 1} (shrSliceOf (0 ∷ []) tt (plain (λ _. u8))) yes
 bytes-stay = stay-none-slice (0 ∷ []) tt (plain (λ _. u8)) yes
@@ -68,6 +88,9 @@ module _ {M : Type 1} (𝓤 : URA M) (H : Heap 𝓤) (A : Atoms 𝓤) (W : Given
 
   pub number-goes : Goes 𝓤 H A W 1 (plain (λ _. usize)) yes number-stay
   number-goes = goes-none 𝓤 H A W 1 (λ _. usize) yes (λ κs x f. refl)
+
+  pub cursor-goes : Goes 𝓤 H A W 1 (plain (λ _. Cur.the-row)) yes cursor-stay
+  cursor-goes = goes-none 𝓤 H A W 1 (λ _. Cur.the-row) yes (λ κs x f. refl)
 
   pub bytes-goes : Goes 𝓤 H A W 1 (shrSliceOf (0 ∷ []) tt (plain (λ _. u8))) yes bytes-stay
   bytes-goes = goes-none-slice 𝓤 H A W 1 (0 ∷ []) tt (plain (λ _. u8)) yes
@@ -82,6 +105,10 @@ module _ {M : Type 1} {𝓤 : URA M} {H : Heap 𝓤} {A : Atoms 𝓤} {K : Type 
   -- what a number owns is had for nothing
   pub number : K → {G : Goal 𝓤 H} (n : ℕ) → n < 2 ^ 64 → Step K W (‵ (usize .own n (vint w64 n ∷ [])) ∷ Γ) G Γ G
   number t n fits = owned t usize (Is usize) (uint-makes 𝓤 H A W w64) n (vint w64 n ∷ []) (refl, fits)
+
+  -- and what a cursor owns
+  pub cursor : K → {G : Goal 𝓤 H} (c : Cursor) → Fits c → Step K W (‵ (Cur.the-row .own c (Cur′.lowered c ∷ [])) ∷ Γ) G Γ G
+  cursor t c fits = owned t Cur.the-row (Is Cur.the-row) (LL.makes Cur.the-type Cur′.the-plain 𝓤 H A) c (Cur′.lowered c ∷ []) (cursor-is c fits)
 
   -- a callee T without a `&mut` has returned u: its result r is had at the head, the tokens behind it, and what its `ensures` says of r is known
   pub returned : K → {G : Goal 𝓤 H} → Soaks G

@@ -1,6 +1,6 @@
-// Fields of bits in a slice of bytes, most significant bit first. At most 7 bits stand before a field in its first byte, so a
-// field of at most 16 bits lies in three bytes. The functions take these three bytes as one number of 24 binary digits, the
-// window, and shift and mask it.
+// Fields of bits in a slice of bytes, most significant bit first. At most 7 bits stand before a field in its first byte, so a field of at
+// most 57 bits lies in eight bytes, and one of at most 16 bits in three. Reading takes the eight bytes as one number and cuts the field out
+// by shifts. Putting, and reading a slice of fewer than eight bytes, takes three bytes as one number of 24 binary digits, the window.
 ghost use mathlib.Core.Path.{_≡_};
 ghost use Prim.Native.Nat.{_+_, _*_, _^_, _<_, _≤_};
 ghost use lib.ListN.{length, getD, set};
@@ -10,10 +10,11 @@ ghost use Rattle.bits.specs.inner.Window.{windowOf, putWindow};
 mod reader;
 mod writer;
 
+pub use reader::Cursor;
+pub use reader::Field;
 pub use reader::Reader;
 pub use reader::Taken;
-pub use reader::field_at;
-pub use reader::position;
+pub use reader::next_field;
 pub use reader::reader_at;
 pub use reader::take;
 pub use writer::Writer;
@@ -40,14 +41,52 @@ fn window_at(bytes: &[u8], first: usize) -> u32
     (byte_at(bytes, first) * 256 + byte_at(bytes, first + 1)) * 256 + byte_at(bytes, first + 2)
 }
 
-// The number in the `width` bits from bit `at`; a bit past the end is 0. The reader takes its fields by it.
-// It is private, so it may require a width that fits the result.
-fn digits_at(bytes: &[u8], at: usize, width: usize) -> u16
-    requires { ⌜ width ≤ 16 ⌝ }
+// The eight bytes from byte `first` as one number; all of them lie in the slice. This is compiled to one load and a swap of its bytes.
+fn eight_bytes(bytes: &[u8], first: usize) -> u64
+    requires { ⌜ first + 8 ≤ length (now bytes) ⌝ }
+    ensures { λ r. ⌜ r ≡ field (now (bytes .entry)) (8 * first) 64 ⌝ }
+{
+    let mut number: u64 = 0;
+    let mut i = 0;
+    while i < 8 {
+        number = number * 256 + bytes[first + i] as u64;
+        i += 1;
+    }
+    number
+}
+
+// The number in the `width` bits from bit `at`; a bit past the end is 0. It looks at three bytes, and takes what does not lie in them 16 bits
+// at a time. It calls itself, so the compiler leaves it out of the loops that take fields.
+fn digits_by_windows(bytes: &[u8], at: usize, width: usize) -> u64
+    requires { ⌜ (width ≤ 57) × (at + width < 2 ^ 64) ⌝ }
     ensures { λ r. ⌜ r ≡ field (now (bytes .entry)) at width ⌝ }
 {
-    let shift = 24 - at % 8 - width;
-    ((window_at(bytes, at / 8) >> shift) % (1u32 << width)) as u16
+    let end = at % 8 + width;
+    if end <= 24 {
+        return ((window_at(bytes, at / 8) >> (24 - end)) % (1u32 << width)) as u64;
+    }
+    let rest = width - 16;
+    (digits_by_windows(bytes, at, rest) << 16) + digits_by_windows(bytes, at + rest, 16)
+}
+
+// The same from eight bytes at once, where the slice has so many. Near its end they are its last eight, and zeros are shifted in behind them.
+// The reader takes its fields by it. It is private, so it may require a width whose field lies in eight bytes: 64 bits less the at most 7
+// before it.
+fn digits_at(bytes: &[u8], at: usize, width: usize) -> u64
+    requires { ⌜ (width ≤ 57) × (at + width < 2 ^ 64) ⌝ }
+    ensures { λ r. ⌜ r ≡ field (now (bytes .entry)) at width ⌝ }
+{
+    if 8 <= bytes.len() {
+        let first = at / 8;
+        let last = bytes.len() - 8;
+        let start = if first < last { first } else { last };
+        let before = at - 8 * start;
+        if before < 64 {
+            // The first shift drops the bits before the field, the others those behind it. They are two, as none may be by 64.
+            return ((eight_bytes(bytes, start) << before) >> 1) >> (63 - width);
+        }
+    }
+    digits_by_windows(bytes, at, width)
 }
 
 // `old` with `value` for its `width` binary digits above the `below` lowest.

@@ -1,72 +1,80 @@
-// A reader of fields. The borrow checker covers no function over a struct that holds a reference, so those below are proved by hand, and
-// each only hands its parts on: `digits_at` and `position_behind`, which are covered, do the work over plain parameters.
+// A reader of fields that counts the bits it hands out. The borrow checker covers no function over a struct that holds a reference, so
+// those over a `Reader` are proved by hand, and each only hands its parts on: `digits_at` and `move_on`, which are covered, do the work.
+// Only our own crates call these functions, so they may have a `requires`.
 ghost use mathlib.Core.Path.{_≡_};
 ghost use Prim.Native.Nat.{_≤_};
-ghost use Rattle.bits.specs.Bits.{field};
-ghost use Rattle.bits.specs.Reading.{behind, takenFrom};
+ghost use Rattle.bits.specs.Reading.{Room, onward, fieldBehind, takenFrom};
 use crate::digits_at;
 
-// The reader of document 01: it holds the borrowed bytes and a bit position.
-pub struct Reader<'a> {
-    pub bytes: &'a [u8],
+// Where a reader stands. The two numbers move on together, so what was handed out is what the position moved by (`one-pass`).
+pub struct Cursor {
     // The bit that comes next.
     pub at: usize,
+    // The bits that were handed out.
+    pub handed: usize,
+}
+
+// The reader of document 01: it holds the borrowed bytes and a bit position; and of document 02: it counts.
+pub struct Reader<'a> {
+    pub bytes: &'a [u8],
+    pub cursor: Cursor,
 }
 
 // A field that was taken, and the reader that stands behind it.
 pub struct Taken<'a> {
-    pub value: u16,
+    pub value: u64,
     pub rest: Reader<'a>,
 }
 
-// The position behind the `width` bits from bit `at`. It stops at the last position, so that a reader may start anywhere.
-fn position_behind(at: usize, width: usize) -> usize
-    ensures { λ r. ⌜ r ≡ behind at width ⌝ }
+// A field that was taken, and the cursor that stands behind it.
+pub struct Field {
+    pub value: u64,
+    pub rest: Cursor,
+}
+
+// The cursor behind the next `width` bits, with these counted.
+fn move_on(cursor: Cursor, width: usize) -> Cursor
+    requires { ⌜ Room cursor width ⌝ }
+    ensures { λ r. ⌜ r ≡ onward cursor width ⌝ }
 {
-    if width < usize::MAX - at {
-        at + width
-    } else {
-        usize::MAX
+    Cursor {
+        at: cursor.at + width,
+        handed: cursor.handed + width,
     }
 }
 
-// A reader of `bytes` whose next bit is bit `at`.
-pub fn reader_at<'a>(bytes: &'a [u8], at: usize) -> Reader<'a>
-    ensures { λ r. ⌜ (r .bytes ≡ bytes .entry) × (r .at ≡ at) ⌝ }
+// A reader of `bytes` that stands at `cursor`.
+pub fn reader_at<'a>(bytes: &'a [u8], cursor: Cursor) -> Reader<'a>
+    ensures { λ r. ⌜ (r .bytes ≡ bytes .entry) × (r .cursor ≡ cursor) ⌝ }
 {
-    Reader { bytes, at }
-}
-
-// The bit that comes next.
-pub fn position<'a>(reader: Reader<'a>) -> usize
-    ensures { λ r. ⌜ r ≡ reader .entry .at ⌝ }
-{
-    reader.at
+    Reader { bytes, cursor }
 }
 
 // The number in the next `width` bits, and the reader behind them; a bit past the end is 0.
-// Only our own crates call it, so it may require a width that fits the result.
 pub fn take<'a>(reader: Reader<'a>, width: usize) -> Taken<'a>
-    requires { ⌜ width ≤ 16 ⌝ }
+    requires { ⌜ (width ≤ 57) × Room (reader .cursor) width ⌝ }
     ensures { λ r. ⌜ r ≡ takenFrom (reader .entry) width ⌝ }
 {
     let bytes = reader.bytes;
-    let at = reader.at;
+    let cursor = reader.cursor;
     Taken {
-        value: digits_at(bytes, at, width),
+        value: digits_at(bytes, cursor.at, width),
         rest: Reader {
             bytes,
-            at: position_behind(at, width),
+            cursor: move_on(cursor, width),
         },
     }
 }
 
-// The number in the `width` bits from bit `at`; a bit past the end is 0. Its parameters are plain, so a caller needs no proof by hand.
-// Only our own crates call it, so it may require a width that fits the result.
-pub fn field_at(bytes: &[u8], at: usize, width: usize) -> u16
-    requires { ⌜ width ≤ 16 ⌝ }
-    ensures { λ r. ⌜ r ≡ field (now (bytes .entry)) at width ⌝ }
+// The number in the next `width` bits of `bytes`, and the cursor behind them; a bit past the end is 0. Its parameters hold no reference in
+// a struct, so a caller needs no proof by hand.
+pub fn next_field(bytes: &[u8], cursor: Cursor, width: usize) -> Field
+    requires { ⌜ (width ≤ 57) × Room cursor width ⌝ }
+    ensures { λ r. ⌜ r ≡ fieldBehind (now (bytes .entry)) cursor width ⌝ }
 {
-    let taken = take(reader_at(bytes, at), width);
-    taken.value
+    let taken = take(reader_at(bytes, cursor), width);
+    Field {
+        value: taken.value,
+        rest: taken.rest.cursor,
+    }
 }

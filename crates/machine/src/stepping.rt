@@ -21,6 +21,7 @@ use refusal::Refusal;
 use tables::Opened;
 use tables::Shape;
 use tables::any_from;
+use tables::cursor_at;
 use tables::line_at;
 use tables::open;
 use tables::spare_used;
@@ -127,7 +128,7 @@ fn move_line(file: &[u8], shape: Shape, clock: Clock, first: &[u16], second: &mu
     line_at(
         file,
         shape,
-        clock.cycle,
+        cursor_at(shape, clock.cycle),
         &mut setting,
         &mut reads,
         &mut sources,

@@ -24,7 +24,7 @@ use Rattle.network.specs.Setting.{setting}
 use Rattle.setting.specs.Calls.{SetOutcome, setOutcome, settledOf, written, settingOf, settingReply}
 use Rattle.passing.specs.Calls.{firstBad, passageOf, followOf, followedReply}
 use Rattle.passing.specs.declared.following.Followed.{Followed}
-use Rattle.tables.specs.Terms.{cycles, fileLength, padded}
+use Rattle.tables.specs.Terms.{cycles, setLineBits, fileLength, padded}
 use Rattle.tables.specs.Header.{headerWords, headerWidth}
 use Rattle.reading.specs.Reading.{ReadOutcome, readOutcome, readOf, readingReply}
 use Rattle.tables.specs.Generated.{setOf as generatedSet}
@@ -118,15 +118,15 @@ module _ (width : ℕ) (values : List ℕ) (line : ℕ) where
 module _ (file images scratch : List ℕ) where
   abbrev ReadEnds : ReadOutcome → Type 0
   ReadEnds (readOutcome answer images′) =
-      Ends (readingReply answer) (headerWords file ∷ headerWidth file ∷ []) (memory images images′ (Only (Front (headerWords file))) ∷ [])
+      Ends (readingReply answer) (headerWords file ∷ headerWidth file ∷ setLineBits (headerWords file) (headerWidth file) ∷ [])
+      (memory images images′ (Only (Front (headerWords file))) ∷ [])
 
   read-ends : ReadEnds (readOf file images scratch)
   unfolding readingReply
   read-ends =
       ⊎-elim (λ r.
       let F = opened-form file (r .4 .opened) in
-      let same : accepts (r .0 ∷ r .1 ∷ []) ≡ accepts (headerWords file ∷ headerWidth file ∷ []) =
-      ap₂ (λ (n w : ℕ). accepts (n ∷ w ∷ [])) (sym (form-words F)) (sym (form-width F)) in
+      let same = ap₂ (λ (n w : ℕ). accepts (n ∷ w ∷ setLineBits n w ∷ [])) (sym (form-words F)) (sym (form-width F)) in
       let front : Only (Front (r .0)) images (r .2) =
       rw (r .4 .written) (only-overwrite (r .0) (λ i. getD (r .2) i 0) images (r .4 .room)) in
       rw (r .3) (accepted same (rw (form-words F) front, tt))) (λ r. rw (r .1) (turned (r .0) (refl, tt))) (read-cases file images scratch)

@@ -9,7 +9,7 @@ use Rattle.laws.proofs.Choices.{zero-not-one}
 use Rattle.refusal.specs.Refusals.{numberOf, placeOf}
 use Rattle.refusal.specs.Replies.{accepts, refusalReply}
 use Rattle.images.specs.Images.{orderOf}
-use Rattle.tables.specs.Terms.{fileLength, padded}
+use Rattle.tables.specs.Terms.{setLineBits, fileLength, padded}
 use Rattle.tables.specs.Format.{Form}
 use Rattle.tables.specs.Datapath.{Performs}
 use Rattle.reading.specs.Reading.{ReadOutcome, readOutcome, contentsOf, readAs, readOf, readingReply}
@@ -24,15 +24,16 @@ use Rattle.generator.proofs.Checking.{passed-checks, generable-dims, generable-
 use Rattle.promises.specs.Demand2.{told, toldOf, ReadsAs, Refuses, Lent, Exact, Answered, Reading}
 use Rattle.promises.proofs.Demand3.{front}
 
--- a reading that tells n and w, and these images, is the one that is accepted so
-told-read : {n w : ℕ} {images : List ℕ} (file : List ℕ) (o : ReadOutcome) → toldOf o ≡ told (accepts (n ∷ w ∷ [])) images
+-- a reading that tells n, w and the line bits, and these images, is the one that is accepted so
+told-read : {n w : ℕ} {images : List ℕ} (file : List ℕ) (o : ReadOutcome) → toldOf o ≡ told (accepts (n ∷ w ∷ setLineBits n w ∷ [])) images
     → o ≡ readAs n w file images
 unfolding toldOf readingReply refusalReply
 told-read {n} {w} {images} file (readOutcome (Read contents) after) e =
     let words : contents .words ≡ n = cc in
     let width : contents .width ≡ w = cc in
+    let bits : contents .«line_bits» ≡ setLineBits n w = cc in
     let given : after ≡ images = cc in
-    let same : contents ≡ contentsOf n w file = ap₂ (λ (m v : ℕ). contentsOf m v file) words width in
+    let same : contents ≡ contentsOf n w file = λ i. record { words = words i; width = width i; «line_bits» = bits i } in
     ap₂ (λ (c : Contents) (xs : List ℕ). readOutcome (Read c) xs) same given
 told-read file (readOutcome (Refused r) after) e = absurd (zero-not-one cc)
 
@@ -53,7 +54,7 @@ module _ (file images scratch : List ℕ) where
         r .0,
         r .1,
         p,
-        ap toldOf (r .3) ∙ ap (told (accepts (r .0 ∷ r .1 ∷ []))) (K .written),
+        ap toldOf (r .3) ∙ ap (told (accepts (r .0 ∷ r .1 ∷ setLineBits (r .0) (r .1) ∷ []))) (K .written),
         opened-form file (K .opened),
         (K .room, K .scratch-room),
         K .performs,

@@ -13,7 +13,7 @@ use Rattle.setting.specs.Calls.{settingOf, setOutcome, settingReply}
 use Rattle.setting.specs.declared.Setting.{Setting}
 use Rattle.passing.specs.Calls.{followOf, followedReply}
 use Rattle.passing.specs.declared.following.Followed.{Followed}
-use Rattle.tables.specs.Terms.{cycles, fileLength, padded}
+use Rattle.tables.specs.Terms.{cycles, setLineBits, fileLength, padded}
 use Rattle.tables.specs.Header.{headerWords, headerWidth}
 use Rattle.tables.specs.Format.{writeAddress}
 use Rattle.reading.specs.Reading.{readOf, readOutcome, readingReply}
@@ -104,9 +104,10 @@ pub record Lending : Type 0 where
   -- following a line: the line on which it leaves; nothing is lent to be written
   pub follow : (width : ℕ) (values : List ℕ) (line : ℕ) (answer : Followed) → answer ≡ followOf width values line
       → Ends (followedReply answer) (leaves (depthOf width) (λ i. getD values i 0) line ∷ []) []
-  -- reading: n and w; the first n images
+  -- reading: n, w and the line bits; the first n images
   pub read : (file images scratch : List ℕ) (answer : Reading) (images′ : List ℕ) → readOutcome answer images′ ≡ readOf file images scratch
-      → Ends (readingReply answer) (headerWords file ∷ headerWidth file ∷ []) (memory images images′ (Only (Front (headerWords file))) ∷ [])
+      → Ends (readingReply answer) (headerWords file ∷ headerWidth file ∷ setLineBits (headerWords file) (headerWidth file) ∷ [])
+      (memory images images′ (Only (Front (headerWords file))) ∷ [])
   -- generating: the file's length; as many bytes of the file, and as many scratch words as the padded n, fewer than the 2 for each of its words
   -- and the 256 that are lent
   pub generate : (n w : ℕ) (images file scratch : List ℕ) (answer : Generation) (file′ scratch′ : List ℕ)

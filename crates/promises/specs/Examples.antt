@@ -9,7 +9,7 @@ use Rattle.refusal.specs.Replies.{accepts}
 use Rattle.machine.specs.Devices.{Feed, feed, Seen, seen, filling, wrote, refused}
 use Rattle.machine.specs.Step.{fresh}
 use Rattle.machine.specs.declared.Clock.{Clock}
-use Rattle.promises.specs.Questions.{generating, reading, setting, following, stepping, running, reordering, making, readLines, switchLines, writeLines, measuring, says, shows, bytes, lines, long, answer, Example, asks, generatingRefused, readingRefused, settingRefused, followingRefused, steppingRefused}
+use Rattle.promises.specs.Questions.{generating, reading, setting, following, stepping, running, reordering, making, readLines, switchLines, writeLines, measuring, counting, says, shows, bytes, lines, long, answer, Example, asks, generatingRefused, readingRefused, settingRefused, followingRefused, steppingRefused}
 
 -- ---- the marked examples
 
@@ -75,11 +75,11 @@ marked =
     asks (making 1 1 (0 ∷ []) []) (bytes (0x00 ∷ 0x08 ∷ 0x10 ∷ []))
     ∷ asks (making 2 2 (0 ∷ 1 ∷ []) []) (bytes (0x00 ∷ 0x10 ∷ 0x20 ∷ 0x00 ∷ []))
     ∷ asks (making 2 2 (1 ∷ 0 ∷ []) []) (bytes (0x00 ∷ 0x10 ∷ 0x20 ∷ 0x80 ∷ []))
-    ∷ asks (reading (0x00 ∷ 0x08 ∷ 0x10 ∷ []) (7 ∷ []) 2) (says (accepts (1 ∷ 1 ∷ [])) (0 ∷ []))
-    ∷ asks (reading (0x00 ∷ 0x10 ∷ 0x20 ∷ 0x00 ∷ []) (7 ∷ 7 ∷ []) 4) (says (accepts (2 ∷ 2 ∷ [])) (0 ∷ 1 ∷ []))
-    ∷ asks (reading (0x00 ∷ 0x10 ∷ 0x20 ∷ 0x80 ∷ []) (7 ∷ 7 ∷ []) 4) (says (accepts (2 ∷ 2 ∷ [])) (1 ∷ 0 ∷ []))
+    ∷ asks (reading (0x00 ∷ 0x08 ∷ 0x10 ∷ []) (7 ∷ []) 2) (says (accepts (1 ∷ 1 ∷ 0 ∷ [])) (0 ∷ []))
+    ∷ asks (reading (0x00 ∷ 0x10 ∷ 0x20 ∷ 0x00 ∷ []) (7 ∷ 7 ∷ []) 4) (says (accepts (2 ∷ 2 ∷ 1 ∷ [])) (0 ∷ 1 ∷ []))
+    ∷ asks (reading (0x00 ∷ 0x10 ∷ 0x20 ∷ 0x80 ∷ []) (7 ∷ 7 ∷ []) 4) (says (accepts (2 ∷ 2 ∷ 1 ∷ [])) (1 ∷ 0 ∷ []))
     -- 4: the order of 12 words. The set is accepted, has these lines, and is the one that generating makes
-    ∷ asks (reading set12 (replicate 12 0) 24) (says (accepts (12 ∷ 3 ∷ [])) order12)
+    ∷ asks (reading set12 (replicate 12 0) 24) (says (accepts (12 ∷ 3 ∷ 68 ∷ [])) order12)
     ∷ asks (readLines 12 3 set12) (lines reads12)
     ∷ asks (switchLines 12 3 set12) (lines switches12)
     ∷ asks (writeLines 12 3 set12) (lines writes12)
@@ -141,12 +141,12 @@ extensions =
     -- example 11: accepted, with memory for 12 words; the set is read as 12 words in their places
     asks (generating 10 3 straight10 12 280) (says (accepts (12 ∷ [])) [])
     ∷ asks (making 10 3 straight10 ((0 ∷ 0 ∷ 0 ∷ []) ∷ (1 ∷ 1 ∷ 1 ∷ []) ∷ (2 ∷ 2 ∷ 2 ∷ []) ∷ (3 ∷ 3 ∷ 3 ∷ []) ∷ [])) (bytes straight12)
-    ∷ asks (reading straight12 (replicate 12 7) 24) (says (accepts (12 ∷ 3 ∷ [])) (tabulate 12 (λ i. i)))
+    ∷ asks (reading straight12 (replicate 12 7) 24) (says (accepts (12 ∷ 3 ∷ 68 ∷ [])) (tabulate 12 (λ i. i)))
     -- sets of one cycle, with a width above n
     ∷ asks (making 2 3 (1 ∷ 0 ∷ []) []) (bytes (0x00 ∷ 0x18 ∷ 0x30 ∷ 0x08 ∷ []))
     ∷ asks (making 1 2 (0 ∷ []) []) (bytes (0x00 ∷ 0x10 ∷ 0x20 ∷ 0x00 ∷ []))
     ∷ asks (making 1 3 (0 ∷ []) []) (bytes (0x00 ∷ 0x18 ∷ 0x30 ∷ 0x00 ∷ []))
-    ∷ asks (reading (0x00 ∷ 0x18 ∷ 0x30 ∷ 0x08 ∷ []) (replicate 3 7) 6) (says (accepts (3 ∷ 3 ∷ [])) (1 ∷ 0 ∷ 2 ∷ []))
+    ∷ asks (reading (0x00 ∷ 0x18 ∷ 0x30 ∷ 0x08 ∷ []) (replicate 3 7) 6) (says (accepts (3 ∷ 3 ∷ 5 ∷ [])) (1 ∷ 0 ∷ 2 ∷ []))
     -- 3: the padded n is 4,098, or 4,100; before 12. It is 4,096, 4,095 and 4,096 for the next three, and 4,097 is 1
     ∷ generatingRefused 4096 3 [] 0 0 3 0
     ∷ generatingRefused 4096 5 [] 0 0 3 0
@@ -256,7 +256,7 @@ set6 x y z = 0x00 ∷ 0x30 ∷ 0x30 ∷ x ∷ y ∷ z ∷ []
 abbrev pub readings : List Example
 readings =
     -- accepted: read and written at 0, 1, 2. Words beyond the need stay
-    asks (reading (set3 0x05 0xA0) (replicate 4 7) 6) (says (accepts (3 ∷ 1 ∷ [])) (0 ∷ 1 ∷ 2 ∷ 7 ∷ []))
+    asks (reading (set3 0x05 0xA0) (replicate 4 7) 6) (says (accepts (3 ∷ 1 ∷ 12 ∷ [])) (0 ∷ 1 ∷ 2 ∷ 7 ∷ []))
     -- 6: two bytes; 7: n 0, n 4,097, width 0, width 65, a width that does not divide, each before 6 for the whole
     ∷ readingRefused (0x00 ∷ 0x00 ∷ []) [] 0 6 0
     ∷ readingRefused (0x00 ∷ 0x00 ∷ 0x10 ∷ []) [] 0 7 0
@@ -272,16 +272,25 @@ readings =
     -- 9 in line 1, by range and by repetition
     ∷ readingRefused (set3 0x0D 0xA0) (replicate 3 7) 6 9 1
     ∷ readingRefused (set3 0x01 0xA0) (replicate 3 7) 6 9 1
+    -- 9 in line 2, the last, by range and by repetition
+    ∷ readingRefused (set3 0x05 0xE0) (replicate 3 7) 6 9 2
+    ∷ readingRefused (set3 0x05 0x20) (replicate 3 7) 6 9 2
     -- 11 in line 2, by range and by repetition
     ∷ readingRefused (set3 0x05 0xB0) (replicate 3 7) 6 11 2
     ∷ readingRefused (set3 0x05 0x80) (replicate 3 7) 6 11 2
     -- an 11 in line 0 before a 9 in line 1
     ∷ readingRefused (set3 0x3D 0xA0) (replicate 3 7) 6 11 0
     -- 10 in line 1, whose network carries line 2 to line 3; with a repeated write address too, still 10; with all three faults, 9
-    ∷ asks (reading (set6 0x00 0x1C 0x1C) (replicate 6 7) 12) (says (accepts (6 ∷ 3 ∷ [])) (0 ∷ 1 ∷ 2 ∷ 3 ∷ 4 ∷ 5 ∷ []))
+    ∷ asks (reading (set6 0x00 0x1C 0x1C) (replicate 6 7) 12) (says (accepts (6 ∷ 3 ∷ 22 ∷ [])) (0 ∷ 1 ∷ 2 ∷ 3 ∷ 4 ∷ 5 ∷ []))
     ∷ readingRefused (set6 0x00 0x1D 0x1C) (replicate 6 7) 12 10 1
     ∷ readingRefused (set6 0x00 0x1D 0x0C) (replicate 6 7) 12 10 1
     ∷ readingRefused (set6 0x00 0x0D 0x0C) (replicate 6 7) 12 9 1
+    -- the line bits of large sets
+    ∷ asks (counting 4096 1) (long 98304)
+    ∷ asks (counting 4096 2) (long 92160)
+    ∷ asks (counting 4096 64) (long 69696)
+    ∷ asks (counting 1000 8) (long 16125)
+    ∷ asks (counting 4095 63) (long 78195)
     ∷ []
 
 -- ---- a step: "6, 7, 6, 8, 12, 13, 14; then, if fill is at least 1, the range part of 9, then 10, then the range part of 11, for its own line"

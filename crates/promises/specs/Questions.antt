@@ -11,7 +11,7 @@ use Rattle.images.specs.declared.Checked.{Checked}
 use Rattle.images.specs.declared.Checked.the-variants.{Permutation, Refused as Unfit}
 use Rattle.setting.specs.Calls.{SetOutcome, setOutcome, settingOf, settingReply}
 use Rattle.passing.specs.Calls.{followOf, followedReply}
-use Rattle.tables.specs.Terms.{cycles, switchBits, fileLength, padded}
+use Rattle.tables.specs.Terms.{cycles, switchBits, setLineBits, fileLength, padded}
 use Rattle.tables.specs.Format.{readAddress, switchBit, writeAddress}
 use Rattle.tables.specs.Generated.{setOf}
 use Rattle.tables.specs.FirstTest.{firstTest}
@@ -47,15 +47,16 @@ pub data Question : Type 0 where
   readLines : ℕ → ℕ → List ℕ → Question
   switchLines : ℕ → ℕ → List ℕ → Question
   writeLines : ℕ → ℕ → List ℕ → Question
-  -- the length of a set of n words and width w
+  -- the length of a set of n words and width w, and its line bits
   measuring : ℕ → ℕ → Question
+  counting : ℕ → ℕ → Question
 
 pub data Answer : Type 0 where
   -- a call's reply, and afterwards the list that it writes: the images, the values or the output memory (none in generating and following)
   says : Reply → List ℕ → Answer
   -- what each step of a list shows
   shows : List Seen → Answer
-  -- a file, the lines of one, its length
+  -- a file, the lines of one, its bytes or line bits
   bytes : List ℕ → Answer
   lines : List (List ℕ) → Answer
   long : ℕ → Answer
@@ -96,6 +97,7 @@ answer (readLines n w file) = lines (tabulate (cycles n w) (λ t. tabulate w (re
 answer (switchLines n w file) = lines (tabulate (cycles n w) (λ t. tabulate (switchBits w) (switchBit n w file t)))
 answer (writeLines n w file) = lines (tabulate (cycles n w) (λ t. tabulate w (writeAddress n w file t)))
 answer (measuring n w) = long (fileLength n w)
+answer (counting n w) = long (setLineBits n w)
 
 pub record Example : Type 0 where
   pub question : Question

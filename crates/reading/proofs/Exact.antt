@@ -22,7 +22,7 @@ use Rattle.reading.specs.Reading.{readOutcome, contentsOf, readAs, scanL
 use Rattle.tables.specs.Generated.{Schedule, setOf}
 use Rattle.tables.specs.declared.Opened.the-variants.{Set, Refused}
 use Rattle.reading.specs.declared.Contents.{Contents}
-use Rattle.reading.specs.declared.Reading.the-variants.{Refused as Unread}
+use Rattle.reading.specs.declared.Reading.the-variants.{Read, Refused as Unread}
 use Rattle.tables.proofs.Dims.{Dims}
 use Rattle.tables.proofs.Accepted.{Accepted}
 use Rattle.reading.proofs.Scanned.{scan-cases, accepted-scan}
@@ -112,15 +112,16 @@ module _ (file images scratch : List ℕ) where
       formed n w h D = ⊎-elim (λ e. inr (BufferShort, e)) (λ r. scanned n w h D (r .0) (r .1)) (read-room n w h)
 
   -- an accepted reading has written what the datapath performs
-  pub read-performs : {n w : ℕ} {after : List ℕ} → readOf file images scratch ≡ readAs n w file after → Performed file images scratch n w after
-  read-performs {n} {w} {after} h = ⊎-elim accepted (λ r. absurd (zero-not-one (cc (r .1)))) read-cases
+  pub read-performs : {contents : Contents} {after : List ℕ} → readOf file images scratch ≡ readOutcome (Read contents) after
+      → Performed file images scratch (contents .words) (contents .width) after
+  read-performs {contents} {after} h = ⊎-elim accepted (λ r. absurd (zero-not-one (cc (r .1)))) read-cases
     where
       accepted : (m : ℕ) × (v : ℕ) × (out : List ℕ) × (readOf file images scratch ≡ readAs m v file out) × Performed file images scratch m v out
-          → Performed file images scratch n w after
+          → Performed file images scratch (contents .words) (contents .width) after
       accepted r =
-          let contents : contentsOf (r .0) (r .1) file ≡ contentsOf n w file = cc (r .3) in
-          let words : r .0 ≡ n = ap (λ (c : Contents). c .words) contents in
-          let width : r .1 ≡ w = ap (λ (c : Contents). c .width) contents in
+          let same : contentsOf (r .0) (r .1) file ≡ contents = cc (r .3) in
+          let words : r .0 ≡ contents .words = ap (λ (c : Contents). c .words) same in
+          let width : r .1 ≡ contents .width = ap (λ (c : Contents). c .width) same in
           let given : r .2 ≡ after = cc (r .3) in
           subst₃ (Performed file images scratch) words width given (r .4)
 

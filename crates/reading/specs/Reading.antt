@@ -10,7 +10,7 @@ use Rattle.laws.specs.Any.{any}
 use Rattle.laws.specs.Tabulate.{overwrite}
 use Rattle.refusal.specs.declared.Refusal.{Refusal}
 use Rattle.refusal.specs.declared.Refusal.the-variants.{ReadAddress, SpareLine, WriteAddress, BufferShort}
-use Rattle.tables.specs.Terms.{cycles}
+use Rattle.tables.specs.Terms.{cycles, setLineBits}
 use Rattle.tables.specs.Format.{readAddress, writeAddress, openOf}
 use Rattle.tables.specs.Datapath.{carryStrays, imageOf}
 use Rattle.tables.specs.declared.Opened.{Opened}
@@ -35,9 +35,9 @@ writeFault n w file t k =
 pub data ReadOutcome : Type 0 where
   readOutcome : Reading → List ℕ → ReadOutcome
 
--- what an accepted reading returns beside the written images: n and w
+-- what an accepted reading returns beside the written images: n, w and the line bits, which are counted as they are handed out
 abbrev pub contentsOf : ℕ → ℕ → List ℕ → Contents
-contentsOf n w file = record { words = n; width = w }
+contentsOf n w file = record { words = n; width = w; «line_bits» = setLineBits n w }
 
 abbrev pub readAs : ℕ → ℕ → List ℕ → List ℕ → ReadOutcome
 readAs n w file images = readOutcome (Read (contentsOf n w file)) images
@@ -65,7 +65,7 @@ readOpened (Refused r) file images scratch = readOutcome (Unread r) images
 unfoldable pub readOf : List ℕ → List ℕ → List ℕ → ReadOutcome
 readOf file images scratch = readOpened (openOf file) file images scratch
 
--- "reading, n and w beside the written P"
+-- "reading, n and w beside the written P", and document 02's "an accepted reading returns that count beside n and w"
 unfoldable pub readingReply : Reading → Reply
-readingReply (Read contents) = accepts (contents .words ∷ contents .width ∷ [])
+readingReply (Read contents) = accepts (contents .words ∷ contents .width ∷ contents .«line_bits» ∷ [])
 readingReply (Unread r) = refusalReply r

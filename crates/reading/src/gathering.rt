@@ -1,19 +1,22 @@
-// Reading a set: one pass over its lines. The permutation is gathered in arrays of the call's own, and written after the last line.
+// Reading a set: one pass over its lines, by a cursor that is carried on from line to line. The permutation is gathered in arrays of the
+// call's own, and written after the last line.
 ghost use mathlib.Core.Path.{_≡_};
 ghost use mathlib.Core.List.{List};
 ghost use Prim.Native.Nat.{ℕ, _+_, _*_, _<_, _≤_};
 ghost use lib.ListN.{length, getD, replicate};
-ghost use Rattle.limits.specs.Limits.{mostWords, mostWidth, mostSwitches, noWord};
+ghost use Rattle.limits.specs.Limits.{mostWords, mostWidth, noWord};
 ghost use Rattle.laws.specs.Permutation.{inverse};
 ghost use Rattle.laws.specs.Tabulate.{overwrite};
 ghost use Rattle.tables.specs.Terms.{cycles};
 ghost use Rattle.tables.specs.Format.{Shaped};
-ghost use Rattle.reading.specs.Reading.{readOutcome, readLines, readOf};
+ghost use Rattle.tables.specs.inner.Lines.{Line};
+ghost use Rattle.reading.specs.Reading.{contentsOf, readOutcome, readLines, readOf};
 ghost use Rattle.reading.specs.declared.Contents.{Contents};
 ghost use Rattle.reading.specs.declared.Reading.the-variants.{Read};
-ghost use Rattle.reading.specs.inner.Gathering.{faulty, Gather, Gathers, GathersAll, Markable, Marked};
+ghost use Rattle.reading.specs.inner.Gathering.{faulty, behindLines, Gather, Gathers, GathersAll, Markable, Marked};
 use crate::Contents;
 use crate::Reading;
+use bits::Cursor;
 use limits::MOST_SWITCHES;
 use limits::MOST_WIDTH;
 use limits::MOST_WORDS;
@@ -21,12 +24,20 @@ use limits::NO_WORD;
 use refusal::Refusal;
 use tables::Opened;
 use tables::Shape;
+use tables::cursor_at;
 use tables::line_at;
 use tables::open;
 use tables::spare_used;
 
+// What the tests of a line say.
+enum Tested {
+    Passed,
+    Refused(Refusal),
+}
+
+// What they say of all lines, with the cursor behind them.
 enum Gathered {
-    All,
+    All(Cursor),
     Refused(Refusal),
 }
 
@@ -73,36 +84,36 @@ fn mark<'a>(
     }
 }
 
-// One line more, where it passes the tests.
-fn gather_line(
-    file: &[u8],
+// Line t, of which the caller has read what it does: its words and their places are marked, if it passes the tests. It says the same of every
+// file of which these are the line's moves.
+fn gather_line<'a>(
     shape: Shape,
     t: usize,
+    reads: &'a [u16],
+    sources: &'a [u8],
+    writes: &'a [u16],
     places: &mut [u16],
     words: &mut [u16],
-    setting: &mut [u8],
-    reads: &mut [u16],
-    standing: &mut [u8],
-    writes: &mut [u16],
-) -> Gathered
-    requires { ⌜ Shaped shape × (t < cycles (shape .words) (shape .width)) ⌝ }
-    requires { ⌜ (length (now setting) ≡ mostSwitches) × (length (now reads) ≡ mostWidth) × (length (now standing) ≡ mostWidth)
-        × (length (now writes) ≡ mostWidth) ⌝ }
-    requires { ⌜ Gather (shape .words) (shape .width) (now file) t (now places) (now words) ⌝ }
-    ensures { λ r. ⌜ Gathers (shape .words) (shape .width) (now (file .entry)) t r (now (places .exit)) (now (words .exit)) ⌝ }
+) -> Tested
+    requires { ⌜ Shaped shape ⌝ }
+    requires { ⌜ ((file : List ℕ) × Line (shape .words) (shape .width) file t (now reads) (now sources) (now writes)
+        × Gather (shape .words) (shape .width) file t (now places) (now words)) ⌝ }
+    ensures { λ r. ⌜ ((file : List ℕ)
+        → Line (shape .words) (shape .width) file t (now (reads .entry)) (now (sources .entry)) (now (writes .entry))
+        → Gather (shape .words) (shape .width) file t (now (places .entry)) (now (words .entry))
+        → Gathers (shape .words) (shape .width) file t r (now (places .exit)) (now (words .exit))) ⌝ }
 {
-    line_at(file, shape, t, setting, reads, standing, writes);
     if fault(reads, places, shape.width, shape.cycles) {
-        return Gathered::Refused(Refusal::ReadAddress(t));
+        return Tested::Refused(Refusal::ReadAddress(t));
     }
-    if spare_used(standing, shape.width, shape.lines) {
-        return Gathered::Refused(Refusal::SpareLine(t));
+    if spare_used(sources, shape.width, shape.lines) {
+        return Tested::Refused(Refusal::SpareLine(t));
     }
     if fault(writes, words, shape.width, shape.cycles) {
-        return Gathered::Refused(Refusal::WriteAddress(t));
+        return Tested::Refused(Refusal::WriteAddress(t));
     }
-    mark(reads, standing, writes, places, words, shape.width);
-    Gathered::All
+    mark(reads, sources, writes, places, words, shape.width);
+    Tested::Passed
 }
 
 // The place of each word and the word of each place, over all lines. The arrays hold no marks at first.
@@ -116,25 +127,25 @@ fn gather(file: &[u8], shape: Shape, places: &mut [u16], words: &mut [u16]) -> G
     let mut reads = [0u16; MOST_WIDTH];
     let mut standing = [0u8; MOST_WIDTH];
     let mut writes = [0u16; MOST_WIDTH];
+    let mut cursor = cursor_at(shape, 0);
     let mut t = 0;
     while t < cycles {
-        let gathered = gather_line(
+        cursor = line_at(
             file,
             shape,
-            t,
-            places,
-            words,
+            cursor,
             &mut setting,
             &mut reads,
             &mut standing,
             &mut writes,
         );
-        if let Gathered::Refused(refusal) = gathered {
+        let tested = gather_line(shape, t, &reads, &standing, &writes, places, words);
+        if let Tested::Refused(refusal) = tested {
             return Gathered::Refused(refusal);
         }
         t += 1;
     }
-    Gathered::All
+    Gathered::All(cursor)
 }
 
 // The first n images become the places.
@@ -146,6 +157,18 @@ fn write_images(places: &[u16], images: &mut [u16], n: usize)
     while i < n {
         images[i] = places[i];
         i += 1;
+    }
+}
+
+// What an accepted reading returns, from the cursor behind the last line.
+fn contents_of(shape: Shape, cursor: Cursor) -> Contents
+    requires { ⌜ cursor ≡ behindLines (shape .words) (shape .width) (cycles (shape .words) (shape .width)) ⌝ }
+    ensures { λ r. ⌜ ((file : List ℕ) → r ≡ contentsOf (shape .words) (shape .width) file) ⌝ }
+{
+    Contents {
+        words: shape.words,
+        width: shape.width,
+        line_bits: cursor.handed,
     }
 }
 
@@ -166,17 +189,14 @@ fn read_set(file: &[u8], shape: Shape, images: &mut [u16], scratch: &[u16]) -> R
     let mut word_of = [NO_WORD; MOST_WORDS];
     match gather(file, shape, &mut place_of, &mut word_of) {
         Gathered::Refused(refusal) => Reading::Refused(refusal),
-        Gathered::All => {
+        Gathered::All(cursor) => {
             write_images(&place_of, images, words);
-            Reading::Read(Contents {
-                words,
-                width: shape.width,
-            })
+            Reading::Read(contents_of(shape, cursor))
         }
     }
 }
 
-// Reads a set: n and w, and the permutation that it performs in the first n images. Scratch is lent and not written.
+// Reads a set: n, w and the line bits, and the permutation that it performs in the first n images. Scratch is lent and not written.
 pub fn read(file: &[u8], images: &mut [u16], scratch: &[u16]) -> Reading
     ensures { λ r. ⌜ readOutcome r (now (images .exit)) ≡ readOf (now (file .entry)) (now (images .entry)) (now (scratch .entry)) ⌝ }
 {
@@ -186,7 +206,7 @@ pub fn read(file: &[u8], images: &mut [u16], scratch: &[u16]) -> Reading
     }
 }
 
-// Reads a set: n and w, and the word that leaves at each place below n. It answers as reading with memory enough, and the words are the
+// Reads a set: n, w and the line bits, and the word that leaves at each place below n. It answers as reading with memory enough, and the words are the
 // inverse of the images that reading writes. Only our own crates call it, with an array that holds no marks.
 pub fn read_leavers(file: &[u8], leavers: &mut [u16]) -> Reading
     requires { ⌜ now leavers ≡ replicate mostWords noWord ⌝ }
@@ -201,10 +221,7 @@ pub fn read_leavers(file: &[u8], leavers: &mut [u16]) -> Reading
             let mut place_of = [NO_WORD; MOST_WORDS];
             match gather(file, shape, &mut place_of, leavers) {
                 Gathered::Refused(refusal) => Reading::Refused(refusal),
-                Gathered::All => Reading::Read(Contents {
-                    words: shape.words,
-                    width: shape.width,
-                }),
+                Gathered::All(cursor) => Reading::Read(contents_of(shape, cursor)),
             }
         }
     }

@@ -11,6 +11,8 @@ pub struct Contents {
     pub words: usize,
     // w, the words of a cycle.
     pub width: usize,
+    // The line bits that were handed out.
+    pub line_bits: usize,
 }
 
 pub enum Reading {

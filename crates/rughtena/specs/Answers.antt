@@ -23,10 +23,16 @@ unfoldable pub answerOf : Reply → Answer
 answerOf (accepts values) = record { number = 0; value = getD values 0 0 }
 answerOf (refuses number place) = record { number = number; value = place }
 
--- the same with two values
+-- the same with three values, which are 0 in a refusal
 unfoldable pub readAnswerOf : Reply → ReadAnswer
-readAnswerOf (accepts values) = record { number = 0; place = 0; words = getD values 0 0; width = getD values 1 0 }
-readAnswerOf (refuses number place) = record { number = number; place = place; words = 0; width = 0 }
+readAnswerOf (accepts values) = record {
+  number = 0;
+  place = 0;
+  words = getD values 0 0;
+  width = getD values 1 0;
+  «line_bits» = getD values 2 0;
+}
+readAnswerOf (refuses number place) = record { number = number; place = place; words = 0; width = 0; «line_bits» = 0 }
 
 unfoldable pub refusalAnswer : Refusal → Answer
 refusalAnswer r = answerOf (refusalReply r)

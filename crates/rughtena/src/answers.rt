@@ -64,7 +64,7 @@ pub fn of_line(core: Followed) -> Answer
     }
 }
 
-// n and w, or the refusal.
+// n, w and the line bits, or the refusal.
 pub fn of_reading(core: Reading) -> ReadAnswer
     ensures { λ r. ⌜ r ≡ readingAnswer core ⌝ }
 {
@@ -74,12 +74,14 @@ pub fn of_reading(core: Reading) -> ReadAnswer
             place: 0,
             words: contents.words,
             width: contents.width,
+            line_bits: contents.line_bits,
         },
         Reading::Refused(refusal) => ReadAnswer {
             number: refusal.number(),
             place: refusal.place(),
             words: 0,
             width: 0,
+            line_bits: 0,
         },
     }
 }

@@ -29,17 +29,18 @@ pub struct Answer {
     pub value: usize,
 }
 
-// An accepted reading has number and place 0, n and w. A refused one has n and w 0.
+// An accepted reading has number and place 0, n, w and the line bits. A refused one has these three 0.
 #[repr(C)]
 pub struct ReadAnswer {
     pub number: usize,
     pub place: usize,
     pub words: usize,
     pub width: usize,
+    pub line_bits: usize,
 }
 
 // major * 10000 + minor * 100 + patch
-const VERSION: usize = 500;
+const VERSION: usize = 600;
 
 // Generating a table set; the value is the file's length in bytes.
 #[no_mangle]

@@ -23,6 +23,7 @@ pub mod Firsts
 pub mod FirstTests
 -- What the code does, over the lists that it holds.
 pub mod Opens
+pub mod Cursors
 pub mod Scans
 pub mod Passes
 pub mod Lined

@@ -9,15 +9,17 @@ use lib.Pow.{pow-pos}
 use lib.Seq.{length-take-le, getD-take}
 use Rattle.limits.specs.Limits.{mostWidth, mostSwitches}
 use Rattle.bits.specs.Bits.{bit}
+use Rattle.bits.specs.Reading.{onward}
+use Rattle.bits.specs.declared.reader.Cursor.{Cursor}
 use Rattle.network.specs.Network.{bitCount, leaves}
 use Rattle.network.specs.inner.Sizes.{Sized}
 use Rattle.passing.specs.inner.Steps.{Routed}
 use Rattle.network.proofs.Leaves.{leaves-ext, leaves-below}
-use Rattle.tables.specs.Terms.{Dims, cycles, depth, switchBits, addressRow}
+use Rattle.tables.specs.Terms.{Dims, depth, switchBits, addressRow, lineBits}
 use Rattle.tables.specs.Format.{lineAt, shapeOf}
 use Rattle.tables.specs.inner.Lines.{Addresses, Switches, Sources, Line}
 use Rattle.tables.specs.declared.Shape.{Shape}
-use Rattle.tables.proofs.Dims.{addressBits-few, lines-few, switchBits-few, addressRow-few, lineAt-few}
+use Rattle.tables.proofs.Dims.{addressBits-few, lines-few, switchBits-few}
 
 -- the fronts that a pass takes are as long as a network wants them
 pub fronts-sized : (d : ℕ) {lines count : ℕ} (found standing : List ℕ) → Sized lines count d → lines ≤ length standing → count ≤ length found
@@ -54,22 +56,22 @@ sources-straight (suc d) file S e N = absurd (omega (arith, S .1, pow-pos d))
 
 -- ---- a line's parts
 
--- the parts of line t keep the limits of what reads them, and end far from any overflow
-pub record Fitting (s : Shape) (t : ℕ) : Type 0 where
+-- the parts of a line keep the limits of what reads them, and are what the line has
+pub record Fitting (s : Shape) : Type 0 where
   pub addressing : s .addressing ≤ 16
   pub width : s .width ≤ mostWidth
   pub lines : s .lines ≤ mostWidth
   pub switches : s .switches ≤ mostSwitches
-  pub within : s .start + t * s .stride + s .width * s .addressing + s .switches < 2 ^ 32
+  pub all : s .width * s .addressing + s .switches + s .width * s .addressing ≡ lineBits (s .words) (s .width)
 
-pub line-fits : {n w t : ℕ} {s : Shape} → Dims n w → s ≡ shapeOf n w → t < cycles n w → Fitting s t
-unfolding shapeOf lineAt addressRow
-line-fits {n} {w} {t} D e l = rw e (record {
+pub line-fits : {n w : ℕ} {s : Shape} → Dims n w → s ≡ shapeOf n w → Fitting s
+unfolding shapeOf lineBits addressRow
+line-fits {n} {w} D e = rw e (record {
   addressing = omega (arith, addressBits-few D);
   width = D .narrow;
   lines = lines-few D;
   switches = switchBits-few D;
-  within = omega (arith, lineAt-few D t (omega arith), addressRow-few D, switchBits-few D);
+  all = omega arith;
 })
 
 -- its network
@@ -77,15 +79,22 @@ pub line-sized : {n w : ℕ} {s : Shape} → Dims n w → s ≡ shapeOf n w → 
 unfolding shapeOf switchBits
 line-sized {n} {w} D e = (depth w, rw e (refl, refl))
 
--- what was read, where the shape says that the parts stand
-pub line-read : {n w t : ℕ} {s : Shape} {file reads sources writes : List ℕ} → Dims n w → s ≡ shapeOf n w
-    → Addresses file (s .start + t * s .stride) (s .addressing) (s .width) reads
-    → ((d : ℕ) → Sized (s .lines) (s .switches) d → Sources d file (s .start + t * s .stride + s .width * s .addressing) sources)
-    → Addresses file (s .start + t * s .stride + s .width * s .addressing + s .switches) (s .addressing) (s .width) writes
-    → Line n w file t reads sources writes
-unfolding shapeOf lineAt addressRow switchBits
-line-read {n} {w} D e reading carrying writing = record {
-  reading = rw e at reading;
-  carrying = (rw e at carrying) (depth w) (refl, refl);
-  writing = rw e at writing;
-}
+-- what was read by a cursor that was carried on from part to part
+module _ (n w : ℕ) {s : Shape} (file : List ℕ) (cursor : Cursor) {behind-reads : Cursor} (e : s ≡ shapeOf n w)
+    (first : behind-reads ≡ onward cursor (s .width * s .addressing)) where
+  pub switches-read : {setting : List ℕ} → Switches file (behind-reads .at) (s .switches) setting
+      → Switches file (cursor .at + addressRow n w) (switchBits w) setting
+  unfolding shapeOf addressRow
+  switches-read found = rw (first, e) at found
+
+  pub line-read : {behind-switches : Cursor} {reads sources writes : List ℕ} (t : ℕ) → behind-switches ≡ onward behind-reads (s .switches)
+      → cursor .at ≡ lineAt n w t → Addresses file (cursor .at) (s .addressing) (s .width) reads
+      → ((d : ℕ) → Sized (s .lines) (s .switches) d → Sources d file (behind-reads .at) sources)
+      → Addresses file (behind-switches .at) (s .addressing) (s .width) writes
+      → Line n w file t reads sources writes
+  unfolding shapeOf addressRow switchBits
+  line-read t second stands reading carrying writing = record {
+    reading = rw (stands, e) at reading;
+    carrying = (rw (first, stands, e) at carrying) (depth w) (refl, refl);
+    writing = rw (second, first, stands, e) at writing;
+  }

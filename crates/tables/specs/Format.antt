@@ -5,6 +5,7 @@ use mathlib.Core.List.{List}
 use lib.ListN.{length}
 use Rattle.laws.specs.Choice.{ifLt, ifEq}
 use Rattle.bits.specs.Bits.{bit, field}
+use Rattle.bits.specs.declared.reader.Cursor.{Cursor}
 use Rattle.refusal.specs.declared.Refusal.the-variants.{FileShort, Header, FileLong}
 use Rattle.tables.specs.Terms.{Dims, cycles, addressBits, depth, switchBits, addressRow, lineBits, fileLength, dimsTest}
 use Rattle.tables.specs.Header.{headerBits, Begins, leastHeader, headerWords, headerWidth, headerZeros}
@@ -15,6 +16,10 @@ use Rattle.tables.specs.declared.Opened.the-variants.{Set, Refused}
 -- the bit at which line t starts
 unfoldable pub lineAt : ℕ → ℕ → ℕ → ℕ
 lineAt n w t = headerBits n + t * lineBits n w
+
+-- the cursor there, with no bit handed out
+abbrev pub cursorAt : ℕ → ℕ → ℕ → Cursor
+cursorAt n w t = record { at = lineAt n w t; handed = 0 }
 
 -- the address that bank b of the first memory reads in line t: "w read addresses of a bits (bank 0 first)"
 unfoldable pub readAddress : ℕ → ℕ → List ℕ → ℕ → ℕ → ℕ

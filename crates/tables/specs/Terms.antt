@@ -75,6 +75,10 @@ addressRow n w = w * addressBits n w
 unfoldable pub lineBits : ℕ → ℕ → ℕ
 lineBits n w = addressRow n w + (switchBits w + addressRow n w)
 
+-- the line bits of a set: "c(2wa + B)"
+abbrev pub setLineBits : ℕ → ℕ → ℕ
+setLineBits n w = cycles n w * lineBits n w
+
 -- "length in bytes: 3 + ceil(c(2wa + B)/8)", where 3 is the header's
 unfoldable pub fileLength : ℕ → ℕ → ℕ
-fileLength n w = headerBits n / 8 + (cycles n w * lineBits n w + 7) / 8
+fileLength n w = headerBits n / 8 + (setLineBits n w + 7) / 8

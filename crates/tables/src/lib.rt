@@ -3,6 +3,7 @@ mod lines;
 mod opening;
 
 pub use lines::any_from;
+pub use lines::cursor_at;
 pub use lines::line_at;
 pub use lines::numbered;
 pub use lines::spare_used;

@@ -5,28 +5,35 @@ ghost use lib.Dec.{leb};
 ghost use lib.ListN.{length, getD};
 ghost use Rattle.limits.specs.Limits.{mostWidth, mostSwitches};
 ghost use Rattle.laws.specs.Any.{any};
+ghost use Rattle.bits.specs.Reading.{Room, onward};
 ghost use Rattle.network.specs.inner.Sizes.{Sized};
-ghost use Rattle.tables.specs.Terms.{cycles};
-ghost use Rattle.tables.specs.Format.{Shaped};
+ghost use Rattle.tables.specs.Terms.{cycles, switchBits, addressRow, lineBits};
+ghost use Rattle.tables.specs.Format.{Shaped, lineAt, cursorAt};
 ghost use Rattle.tables.specs.inner.Lines.{Addresses, Spread, Switches, Sources, Line, spareUsed};
 use crate::Shape;
+use bits::Cursor;
 use limits::MOST_WIDTH;
 
-// The `count` addresses of `address` bits each that stand from bit `at` on.
-fn addresses(file: &[u8], at: usize, address: usize, count: usize, found: &mut [u16])
-    requires { ⌜ (address ≤ 16) × (count ≤ mostWidth) × (at < 2 ^ 32) × (length (now found) ≡ mostWidth) ⌝ }
-    ensures { λ _. ⌜ Addresses (now (file .entry)) at address count (now (found .exit)) ⌝ }
+// The `count` addresses of `address` bits each that come next, and the cursor behind them.
+fn addresses(file: &[u8], cursor: Cursor, address: usize, count: usize, found: &mut [u16]) -> Cursor
+    requires { ⌜ (address ≤ 16) × (count ≤ mostWidth) × Room cursor (count * address) × (length (now found) ≡ mostWidth) ⌝ }
+    ensures { λ r. ⌜ (r ≡ onward cursor (count * address))
+        × Addresses (now (file .entry)) (cursor .at) address count (now (found .exit)) ⌝ }
 {
+    let mut next = cursor;
     let mut b = 0;
     while b < count {
-        found[b] = bits::field_at(file, at + b * address, address);
+        let taken = bits::next_field(file, next, address);
+        found[b] = taken.value as u16;
+        next = taken.rest;
         b += 1;
     }
+    next
 }
 
 // Puts the `count` binary digits of a number from `found[from]` on, the highest first.
-fn spread(number: u16, count: usize, found: &mut [u8], from: usize)
-    requires { ⌜ (count ≤ 16) × (from + count ≤ length (now found)) × (from < 2 ^ 32) ⌝ }
+fn spread(number: u64, count: usize, found: &mut [u8], from: usize)
+    requires { ⌜ (count ≤ 57) × (from + count ≤ length (now found)) × (from < 2 ^ 32) ⌝ }
     ensures { λ _. ⌜ Spread number count from (now (found .entry)) (now (found .exit)) ⌝ }
 {
     let mut j = 0;
@@ -36,18 +43,23 @@ fn spread(number: u16, count: usize, found: &mut [u8], from: usize)
     }
 }
 
-// The `count` switch bits that stand from bit `at` on, taken 16 at a time.
-fn switches(file: &[u8], at: usize, count: usize, found: &mut [u8])
-    requires { ⌜ (count ≤ mostSwitches) × (at < 2 ^ 32) × (length (now found) ≡ mostSwitches) ⌝ }
-    ensures { λ _. ⌜ Switches (now (file .entry)) at count (now (found .exit)) ⌝ }
+// The `count` switch bits that come next, and the cursor behind them. They are taken 57 at a time, the most that a field has.
+fn switches(file: &[u8], cursor: Cursor, count: usize, found: &mut [u8]) -> Cursor
+    requires { ⌜ (count ≤ mostSwitches) × Room cursor count × (length (now found) ≡ mostSwitches) ⌝ }
+    ensures { λ r. ⌜ (r ≡ onward cursor count) × Switches (now (file .entry)) (cursor .at) count (now (found .exit)) ⌝ }
 {
+    let mut next = cursor;
     let mut i = 0;
-    while i + 16 <= count {
-        spread(bits::field_at(file, at + i, 16), 16, found, i);
-        i += 16;
+    while i + 57 <= count {
+        let field = bits::next_field(file, next, 57);
+        spread(field.value, 57, found, i);
+        next = field.rest;
+        i += 57;
     }
     let rest = count - i;
-    spread(bits::field_at(file, at + i, rest), rest, found, i);
+    let last = bits::next_field(file, next, rest);
+    spread(last.value, rest, found, i);
+    last.rest
 }
 
 // Each of the first `lines` lines gets its own number.
@@ -62,67 +74,65 @@ fn number(standing: &mut [u8], lines: usize)
     }
 }
 
-// The line that leaves on each of `lines` lines of a network, whose `count` bits stand from bit `at` on. The bits are put in `setting`. A
-// network of one line has none.
+// The line that leaves on each of `lines` lines of a network whose `count` bits come next, and the cursor behind these. The bits are put in
+// `setting`. A network of one line has none.
 fn sources(
     file: &[u8],
-    at: usize,
+    cursor: Cursor,
     lines: usize,
     count: usize,
     setting: &mut [u8],
     standing: &mut [u8],
-)
+) -> Cursor
     requires { ⌜ ((d : ℕ) × Sized lines count d) ⌝ }
-    requires { ⌜ (lines ≤ mostWidth) × (count ≤ mostSwitches) × (at < 2 ^ 32)
+    requires { ⌜ (lines ≤ mostWidth) × (count ≤ mostSwitches) × Room cursor count
         × (length (now setting) ≡ mostSwitches) × (length (now standing) ≡ mostWidth) ⌝ }
-    ensures { λ _. ⌜ (length (now (setting .exit)) ≡ mostSwitches)
-        × ((d : ℕ) → Sized lines count d → Sources d (now (file .entry)) at (now (standing .exit))) ⌝ }
+    ensures { λ r. ⌜ (r ≡ onward cursor count) × Switches (now (file .entry)) (cursor .at) count (now (setting .exit))
+        × ((d : ℕ) → Sized lines count d → Sources d (now (file .entry)) (cursor .at) (now (standing .exit))) ⌝ }
 {
     number(standing, lines);
     if count == 0 {
-        return;
+        return cursor;
     }
-    switches(file, at, count, setting);
+    let next = switches(file, cursor, count, setting);
     passing::route(&setting[..count], &mut standing[..lines]);
+    next
 }
 
-// What line t of a set does: the address that each bank of the first memory reads, the line that leaves the network on each line, and the
-// address that each bank of the second memory writes. Only the entries of the set's banks and lines count. The caller lends the arrays, so
-// that they are made once for many lines. Only our own crates call it, with the shape of a set and one of its lines.
+// The cursor at line t of a set, with no bit handed out. Only our own crates call it, with the shape of a set and one of its lines.
+pub fn cursor_at(shape: Shape, t: usize) -> Cursor
+    requires { ⌜ Shaped shape × (t < cycles (shape .words) (shape .width)) ⌝ }
+    ensures { λ r. ⌜ r ≡ cursorAt (shape .words) (shape .width) t ⌝ }
+{
+    Cursor {
+        at: shape.start + t * shape.stride,
+        handed: 0,
+    }
+}
+
+// What the line does that comes next in a set, and the cursor behind it: the switch bits, the address that each bank of the first memory
+// reads, the line that leaves the network on each line, and the address that each bank of the second memory writes. Only the entries of the
+// set's banks and lines count. The caller lends the arrays, so that they are made once for many lines. Only our own crates call it.
 pub fn line_at(
     file: &[u8],
     shape: Shape,
-    t: usize,
+    cursor: Cursor,
     setting: &mut [u8],
     reads: &mut [u16],
     standing: &mut [u8],
     writes: &mut [u16],
-)
-    requires { ⌜ Shaped shape ⌝ }
-    requires { ⌜ t < cycles (shape .words) (shape .width) ⌝ }
+) -> Cursor
+    requires { ⌜ Shaped shape × Room cursor (lineBits (shape .words) (shape .width)) ⌝ }
     requires { ⌜ (length (now setting) ≡ mostSwitches) × (length (now reads) ≡ mostWidth)
         × (length (now standing) ≡ mostWidth) × (length (now writes) ≡ mostWidth) ⌝ }
-    ensures { λ _. ⌜ (length (now (setting .exit)) ≡ mostSwitches)
-        × Line (shape .words) (shape .width) (now (file .entry)) t (now (reads .exit)) (now (standing .exit)) (now (writes .exit)) ⌝ }
+    ensures { λ r. ⌜ (r ≡ onward cursor (lineBits (shape .words) (shape .width)))
+        × Switches (now (file .entry)) (cursor .at + addressRow (shape .words) (shape .width)) (switchBits (shape .width)) (now (setting .exit))
+        × ((t : ℕ) → cursor .at ≡ lineAt (shape .words) (shape .width) t
+        → Line (shape .words) (shape .width) (now (file .entry)) t (now (reads .exit)) (now (standing .exit)) (now (writes .exit))) ⌝ }
 {
-    let at = shape.start + t * shape.stride;
-    let row = shape.width * shape.addressing;
-    addresses(file, at, shape.addressing, shape.width, reads);
-    sources(
-        file,
-        at + row,
-        shape.lines,
-        shape.switches,
-        setting,
-        standing,
-    );
-    addresses(
-        file,
-        at + row + shape.switches,
-        shape.addressing,
-        shape.width,
-        writes,
-    );
+    let read = addresses(file, cursor, shape.addressing, shape.width, reads);
+    let carried = sources(file, read, shape.lines, shape.switches, setting, standing);
+    addresses(file, carried, shape.addressing, shape.width, writes)
 }
 
 // Each of 64 lines with its own number. Only our own crates need it.

@@ -11,6 +11,7 @@ ghost use Rattle.tables.specs.declared.Opened.the-variants.{Refused};
 use crate::Limits;
 use crate::Opened;
 use crate::Shape;
+use bits::Cursor;
 use limits::MOST_WIDTH;
 use limits::MOST_WORDS;
 use refusal::Refusal;
@@ -112,10 +113,12 @@ pub fn open(file: &[u8]) -> Opened
     if file.len() < LEAST_HEADER {
         return Opened::Refused(Refusal::FileShort);
     }
-    let words = bits::field_at(file, 0, 13) as usize;
-    let width = bits::field_at(file, 13, 7) as usize;
-    let zeros = bits::field_at(file, 20, 4);
-    if zeros != 0 {
+    // 13 bits for n, 7 for w and 4 that are 0, in one field.
+    let start = Cursor { at: 0, handed: 0 };
+    let header = bits::next_field(file, start, HEADER_BITS).value as usize;
+    let words = header >> 11;
+    let width = (header >> 4) % 128;
+    if header % 16 != 0 {
         return Opened::Refused(Refusal::Header);
     }
     match test_limits(words, width) {

@@ -10,12 +10,20 @@ use Rattle.limits.specs.Limits.{mostWords, mostWidth, noWord}
 use Rattle.laws.specs.Choice.{choose}
 use Rattle.laws.specs.Any.{any}
 use Rattle.refusal.specs.declared.Refusal.{Refusal}
-use Rattle.tables.specs.Terms.{cycles}
-use Rattle.tables.specs.Format.{readAddress, writeAddress}
+use Rattle.bits.specs.Reading.{onward}
+use Rattle.bits.specs.declared.reader.Cursor.{Cursor}
+use Rattle.tables.specs.Terms.{cycles, lineBits}
+use Rattle.tables.specs.Format.{cursorAt, readAddress, writeAddress}
 use Rattle.tables.specs.Datapath.{carryStrays, source, target}
 use Rattle.reading.specs.Reading.{ReadOutcome, readFault, writeFault, scanLines}
+use Rattle.reading.specs.declared.gathering.Tested.{Tested}
+use Rattle.reading.specs.declared.gathering.Tested.the-variants.{Passed, Refused as Turned}
 use Rattle.reading.specs.declared.gathering.Gathered.{Gathered}
 use Rattle.reading.specs.declared.gathering.Gathered.the-variants.{All, Refused}
+
+-- the cursor behind the first t lines: from the first line's start it has moved on by the bits that were handed out
+abbrev pub behindLines : ℕ → ℕ → ℕ → Cursor
+behindLines n w t = onward (cursorAt n w 0) (t * lineBits n w)
 
 -- an address of a bank is outside the frame, or its word or place is marked
 unfoldable pub faulty : List ℕ → List ℕ → ℕ → ℕ → Bool
@@ -33,14 +41,14 @@ pub record Gather (n w : ℕ) (file : List ℕ) (t : ℕ) (places words : List �
   pub untaken : (a k : ℕ) → a < cycles n w → k < w → ((s : ℕ) → s < t → writeAddress n w file s k ≡ a → ⊥) → getD words (a * w + k) 0 ≡ noWord
 
 -- what the answer to one line says: it passed, or the scan of the lines stops there
-abbrev pub Gathers : ℕ → ℕ → List ℕ → ℕ → Gathered → List ℕ → List ℕ → Type 0
-Gathers n w file t All places words = Gather n w file (t + 1) places words
-Gathers n w file t (Refused r) places words =
+abbrev pub Gathers : ℕ → ℕ → List ℕ → ℕ → Tested → List ℕ → List ℕ → Type 0
+Gathers n w file t Passed places words = Gather n w file (t + 1) places words
+Gathers n w file t (Turned r) places words =
     (k : ℕ) (refused : Refusal → ReadOutcome) (next : ReadOutcome) → scanLines n w file (suc k) t refused next ≡ refused r
 
 -- what the answer to all lines says
 abbrev pub GathersAll : ℕ → ℕ → List ℕ → Gathered → List ℕ → List ℕ → Type 0
-GathersAll n w file All places words = Gather n w file (cycles n w) places words
+GathersAll n w file (All cursor) places words = (cursor ≡ behindLines n w (cycles n w)) × Gather n w file (cycles n w) places words
 GathersAll n w file (Refused r) places words =
     (refused : Refusal → ReadOutcome) (next : ReadOutcome) → scanLines n w file (cycles n w) 0 refused next ≡ refused r
 

@@ -1,12 +1,16 @@
 -- `machine::stepping::move_line` meets its contract: with no frame held nothing is done; else the three tests are the definition's, in its
 -- order, and the words of a line that passes them move.
 use Prim.Native.Nat.{ℕ}
-use mathlib.Core.Path.{_≡_, sym, _∙_}
+use mathlib.Core.Path.{_≡_, refl, sym, ap, _∙_}
 use mathlib.Core.Bool.{Bool, false}
 use mathlib.Core.List.{List}
 use native.Mathlib.Omega.{arith}
 use borrow.Author.Needs.{needs}
 use Rattle.tables.specs.Datapath.{readStrays, carryStrays, writeStrays, strays}
+use Rattle.tables.specs.Format.{cursorAt}
+use Rattle.tables.specs.inner.Lines.{Line}
+use Rattle.bits.specs.declared.reader.Cursor.{Cursor}
+use Rattle.tables.proofs.Cursors.{line-room}
 use Rattle.tables.proofs.Dims.{depth-reaches, lines-few}
 use Rattle.tables.proofs.Lined.{reads-stray, writes-stray, spare-strays}
 use Rattle.machine.proofs.Tests.{none-stray, line-stays, read-refused, carry-refused, write-refused, line-moves}
@@ -21,7 +25,7 @@ abbrev found : tie.After-any-from → tie.After-line-at
 found c = c .before .before .before .before .before .before
 
 abbrev held : tie.After-line-at → tie.Else1
-held c = c .before .before .before .before .before
+held c = c .before .before .before .before .before .before
 
 abbrev found2 : tie.After-spare-used → tie.After-line-at
 found2 c = found (c .before .before .before)
@@ -36,18 +40,28 @@ line-start c = start1 (held c)
 abbrev own : (ℕ → ℕ → List ℕ → ℕ → Bool) → tie.Start → Bool
 own test s = test (s .args .shape .words) (s .args .shape .width) (s .args .file .now) (s .args .clock .cycle)
 
+-- the cursor stands at the step's own line, and what that line does
+stands : (c : tie.After-cursor-at) → let s = start1 (c .before) in
+    c .cursor-at .result ≡ cursorAt (s .args .shape .words) (s .args .shape .width) (s .args .clock .cycle)
+stands c = c .cursor-at .ensures
+
+line-of : (c : tie.After-line-at) → let s = line-start c in
+    let last = c .line-at .last .1 .1 .1 .1 in
+    Line (s .args .shape .words) (s .args .shape .width) (s .args .file .now) (s .args .clock .cycle) (last .0) (last .1 .0) (last .1 .1 .0)
+line-of c = c .line-at .ensures .2 (line-start c .args .clock .cycle) (ap (λ (x : Cursor). x .at) (stands (c .before .before .before .before .before)))
+
 -- what each test says
 reads-told : (c : tie.After-any-from) {b : Bool} → c .any-from .result ≡ b → own readStrays (line-start (found c)) ≡ b
 reads-told c e =
-    sym (reads-stray (found c .line-at .ensures .1)) ∙ rw (line-start (found c) .pre .0 .0 .cycles) at (sym (c .any-from .ensures) ∙ e)
+    sym (reads-stray (line-of (found c))) ∙ rw (line-start (found c) .pre .0 .0 .cycles) at (sym (c .any-from .ensures) ∙ e)
 
 carries-told : (c : tie.After-spare-used) {b : Bool} → c .spare-used .result ≡ b → own carryStrays (line-start (found2 c)) ≡ b
 carries-told c e =
-    sym (spare-strays (found2 c .line-at .ensures .1)) ∙ rw (line-start (found2 c) .pre .0 .0 .lines) at (sym (c .spare-used .ensures) ∙ e)
+    sym (spare-strays (line-of (found2 c))) ∙ rw (line-start (found2 c) .pre .0 .0 .lines) at (sym (c .spare-used .ensures) ∙ e)
 
 writes-told : (c : tie.After-any-from2) {b : Bool} → c .any-from2 .result ≡ b → own writeStrays (line-start (found3 c)) ≡ b
 writes-told c e =
-    sym (writes-stray (found3 c .line-at .ensures .1)) ∙ rw (line-start (found3 c) .pre .0 .0 .cycles) at (sym (c .any-from2 .ensures) ∙ e)
+    sym (writes-stray (line-of (found3 c))) ∙ rw (line-start (found3 c) .pre .0 .0 .cycles) at (sym (c .any-from2 .ensures) ∙ e)
 
 none : (c : tie.Else4) → own strays (line-start (found3 (c .before))) ≡ false
 none c =
@@ -58,6 +72,9 @@ none c =
 
 returns : tie.Need-returns
 returns c = line-stays _ _ _ _ _ _ (c .if1 .taken)
+
+cursor-at-requires : tie.Need-cursor-at-requires
+cursor-at-requires c κs = let s = start1 c in (s .pre .0 .0, s .pre .0 .1 .cycle)
 
 slice-aggregate-line-at : tie.Need-slice-aggregate-line-at
 slice-aggregate-line-at c = search needs
@@ -72,7 +89,13 @@ slice-aggregate-line-at-4 : tie.Need-slice-aggregate-line-at-4
 slice-aggregate-line-at-4 c = search needs
 
 line-at-requires : tie.Need-line-at-requires
-line-at-requires c κs = search needs
+line-at-requires c κs =
+    let d = c .before .before .before .before in
+    let s = start1 (d .before) in
+    let t = s .args .clock .cycle in
+    let cursor = cursorAt (s .args .shape .words) (s .args .shape .width) t in
+    let room = line-room {cursor = cursor} (s .pre .0 .0 .dims) t (s .pre .0 .1 .cycle) refl (omega arith) in
+    ((s .pre .0 .0, rw (stands d) room), (refl, refl, refl, refl))
 
 slice-aggregate-any-from : tie.Need-slice-aggregate-any-from
 slice-aggregate-any-from c = search needs
@@ -91,7 +114,7 @@ spare-used-requires c κs =
     let line = found (c .before .before) in
     let s = line-start line in
     let v = s .pre .0 .0 .lines in
-    (rw v (depth-reaches (s .args .shape .width)), omega (arith, line .line-at .ensures .1 .carrying .long, v, lines-few (s .pre .0 .0 .dims)))
+    (rw v (depth-reaches (s .args .shape .width)), omega (arith, line-of line .carrying .long, v, lines-few (s .pre .0 .0 .dims)))
 
 returns-3 : tie.Need-returns-3
 returns-3 c =
@@ -103,7 +126,9 @@ slice-aggregate-any-from-2 : tie.Need-slice-aggregate-any-from-2
 slice-aggregate-any-from-2 c = search needs
 
 any-from-requires-2 : tie.Need-any-from-requires-2
-any-from-requires-2 c κs = search needs
+any-from-requires-2 c κs =
+    let line = found2 (c .before .before) in
+    omega (arith, line-of line .writing .long, line-start line .pre .0 .0 .dims .narrow)
 
 returns-4 : tie.Need-returns-4
 returns-4 c =
@@ -126,7 +151,7 @@ move-words-requires c κs =
     let four = c .before .before .before .before in
     let line = found3 (four .before) in
     let s = line-start line in
-    (s .pre .0 .0, ((s .pre .1 .0, s .pre .1 .1, s .pre .0 .1 .half), (s .args .file .now, line .line-at .ensures .1, none four)))
+    (s .pre .0 .0, ((s .pre .1 .0, s .pre .1 .1, s .pre .0 .1 .half), (s .args .file .now, line-of line, none four)))
 
 same-length : tie.Need-same-length
 same-length c = search needs
@@ -140,13 +165,14 @@ returns-5 c =
     let line = found3 (four .before) in
     let s = line-start line in
     line-moves _ _ _ _ _ _ (held line .if1 .left) (reads-told (two .before) (two .if2 .left)) (carries-told (three .before) (three .if3 .left))
-    (writes-told (four .before) (four .if4 .left)) (moved .move-words .ensures (s .args .file .now) (line .line-at .ensures .1) (none four))
+    (writes-told (four .before) (four .if4 .left)) (moved .move-words .ensures (s .args .file .now) (line-of line) (none four))
 
 pub move-line-spec : {M : Type 1} → statement M
 move-line-spec =
     tie.close
     (tie.spec
     returns
+    cursor-at-requires
     slice-aggregate-line-at
     slice-aggregate-line-at-2
     slice-aggregate-line-at-3

@@ -1,42 +1,53 @@
--- `reading::gathering::gather` meets its contract: a line is refused, which stops the scan there, or the scan goes on behind it. The arrays of
--- a line keep their lengths.
-use Prim.Native.Nat.{ℕ, _-_, _<_}
-use mathlib.Core.Path.{_≡_, subst, sym, _∙_}
+-- `reading::gathering::gather` meets its contract: a line is refused, which stops the scan there, or the scan goes on behind it, by the cursor
+-- that stands there. The arrays of a line keep their lengths.
+use Prim.Native.Nat.{ℕ, _-_, _<_, _≤_}
+use mathlib.Core.Path.{_≡_, subst, sym, ap, _∙_}
 use native.Mathlib.Omega.{arith}
 use borrow.Author.Needs.{needs}
 use lib.ListN.{length, length-replicate}
 use Rattle.limits.specs.Limits.{mostWidth, mostSwitches}
-use Rattle.tables.specs.Terms.{cycles}
-use Rattle.reading.specs.inner.Gathering.{Gathers}
-use Rattle.reading.specs.declared.gathering.Gathered.{Gathered}
+use Rattle.bits.specs.Reading.{onward}
+use Rattle.bits.specs.declared.reader.Cursor.{Cursor}
+use Rattle.tables.specs.Terms.{cycles, lineBits}
+use Rattle.tables.specs.inner.Lines.{Line}
+use Rattle.reading.specs.inner.Gathering.{behindLines, Gathers}
+use Rattle.reading.specs.declared.gathering.Tested.{Tested}
+use Rattle.tables.proofs.Dims.{cycles-positive, cycles-few}
+use Rattle.reading.proofs.Counts.{behind-stands, behind-none, behind-more, behind-room}
 use Rattle.reading.proofs.Gathers.{Gathering, gathering-none, gathering-more, gathering-refused, gathering-all}
 use Rattle.reading.proofs.gathering.gather.Statement.{statement}
 use Rattle.reading.proofs.gathering.gather.Tie as tie
 
 abbrev Inv-loop : tie.InvT-loop
-Inv-loop file shape places₀ words₀ cycles setting₀ reads₀ standing₀ writes₀ t₀ places words setting reads standing writes t =
-    Gathering (shape .words) (shape .width) file t places words
+Inv-loop file shape places₀ words₀ cycles setting₀ reads₀ standing₀ writes₀ cursor₀ t₀ places words setting reads standing writes cursor t =
+    (Gathering (shape .words) (shape .width) file t places words × (cursor ≡ behindLines (shape .words) (shape .width) t))
     × (length setting ≡ mostSwitches) × (length reads ≡ mostWidth) × (length standing ≡ mostWidth) × (length writes ≡ mostWidth)
 
 abbrev μ-loop : tie.MeasureT-loop
-μ-loop file shape places₀ words₀ cycles setting₀ reads₀ standing₀ writes₀ t₀ places words setting reads standing writes t = cycles - t
+μ-loop file shape places₀ words₀ cycles setting₀ reads₀ standing₀ writes₀ cursor₀ t₀ places words setting reads standing writes cursor t = cycles - t
 
 -- ---- the places
 
 abbrev start : tie.At-loop Inv-loop μ-loop → tie.Start Inv-loop μ-loop
-start c = c .before .before .before .before
+start c = c .before .before .before .before .before
+
+abbrev turn : tie.After-line-at Inv-loop μ-loop → tie.In-loop Inv-loop μ-loop
+turn c = c .before .before .before .before .before
+
+abbrev read : tie.After-gather-line Inv-loop μ-loop → tie.After-line-at Inv-loop μ-loop
+read c = c .before .before .before .before .before .before .before .before .before .before
 
 abbrev test : tie.After-gather-line Inv-loop μ-loop → tie.In-loop Inv-loop μ-loop
-test c = c .before .before .before .before .before .before .before
+test c = turn (read c)
 
-abbrev line : tie.After-writes2 Inv-loop μ-loop → tie.After-gather-line Inv-loop μ-loop
-line c = c .before .before .before .before .before .before .before .before
+abbrev line : tie.After-slice-known4 Inv-loop μ-loop → tie.After-gather-line Inv-loop μ-loop
+line c = c .before .before .before .before
 
 abbrev line-refused : tie.After-known-told Inv-loop μ-loop → tie.After-gather-line Inv-loop μ-loop
 line-refused c = line (c .before .before .before)
 
-abbrev line-gathered : tie.After-enum-told Inv-loop μ-loop → tie.After-gather-line Inv-loop μ-loop
-line-gathered c = line (c .before .before)
+abbrev line-passed : tie.After-enum-told Inv-loop μ-loop → tie.After-gather-line Inv-loop μ-loop
+line-passed c = line (c .before .before)
 
 -- ---- the facts
 
@@ -46,80 +57,120 @@ line-left : (c : tie.In-loop Inv-loop μ-loop)
     c .before .loop .t < cycles (s .args .shape .words) (s .args .shape .width)
 line-left c = let s = start (c .before) in rw (s .pre .0 .cycles) at (c .loop-test .taken)
 
--- what the call for line t gives, once its answer is known
-gathers : (c : tie.After-gather-line Inv-loop μ-loop) (g : Gathered)
+-- the cursor stands at line t, and what that line does
+line-read : (c : tie.After-line-at Inv-loop μ-loop)
+    → let a = turn c .before in
+    let s = start a in
+    let last = c .line-at .last .1 .1 .1 .1 in
+    Line (s .args .shape .words) (s .args .shape .width) (s .args .file .now) (a .loop .t) (last .0) (last .1 .0) (last .1 .1 .0)
+line-read c =
+    let a = turn c .before in
+    c .line-at .ensures .2 (a .loop .t) (ap (λ (x : Cursor). x .at) (a .loop .inv .0 .1) ∙ behind-stands _ _ (a .loop .t))
+
+-- what the tests of line t say, once their answer is known
+gathers : (c : tie.After-gather-line Inv-loop μ-loop) (g : Tested)
     → c .gather-line .result ≡ g
     → let a = test c .before in
     let s = start a in
-    let marks = c .gather-line .last .1 .1 .1 in
+    let marks = c .gather-line .last .1 .1 .1 .1 .1 in
     Gathers (s .args .shape .words) (s .args .shape .width) (s .args .file .now) (a .loop .t) g (marks .0) (marks .1 .0)
 gathers c g e =
     let a = test c .before in
     let s = start a in
-    let marks = c .gather-line .last .1 .1 .1 in
-    let Ends : Gathered → Type 0 =
+    let marks = c .gather-line .last .1 .1 .1 .1 .1 in
+    let Ends : Tested → Type 0 =
     λ g. Gathers (s .args .shape .words) (s .args .shape .width) (s .args .file .now) (a .loop .t) g (marks .0) (marks .1 .0) in
-    subst Ends e (c .gather-line .ensures)
+    subst Ends e (c .gather-line .ensures (s .args .file .now) (line-read (read c)) (a .loop .inv .0 .0 .gathered))
+
+cursor-at-requires : tie.Need-cursor-at-requires Inv-loop μ-loop
+cursor-at-requires c κs = let shaped = c .before .before .before .pre .0 in (shaped, cycles-positive (shaped .dims))
 
 loop-holds : tie.Need-loop-holds Inv-loop μ-loop
 loop-holds c =
     let wide = length-replicate {A = ℕ} mostWidth 0 in
-    (gathering-none (c .before .before .before .pre .1), length-replicate {A = ℕ} mostSwitches 0, wide, wide, wide)
+    let s = c .before .before .before .before in
+    let first = c .cursor-at .ensures ∙ behind-none (s .args .shape .words) (s .args .shape .width) in
+    ((gathering-none (s .pre .1), first), length-replicate {A = ℕ} mostSwitches 0, wide, wide, wide)
+
+slice-aggregate-line-at : tie.Need-slice-aggregate-line-at Inv-loop μ-loop
+slice-aggregate-line-at c = sym (c .before .before .loop .inv .1)
+
+slice-aggregate-line-at-2 : tie.Need-slice-aggregate-line-at-2 Inv-loop μ-loop
+slice-aggregate-line-at-2 c = sym (c .before .before .before .loop .inv .2)
+
+slice-aggregate-line-at-3 : tie.Need-slice-aggregate-line-at-3 Inv-loop μ-loop
+slice-aggregate-line-at-3 c = sym (c .before .before .before .before .loop .inv .3)
+
+slice-aggregate-line-at-4 : tie.Need-slice-aggregate-line-at-4 Inv-loop μ-loop
+slice-aggregate-line-at-4 c = sym (c .before .before .before .before .before .loop .inv .4)
+
+line-at-requires : tie.Need-line-at-requires Inv-loop μ-loop
+line-at-requires c κs =
+    let d = c .before .before .before .before in
+    let s = start (d .before) in
+    let held = d .before .loop .inv in
+    let room = behind-room (s .pre .0 .dims) (d .before .loop .t) (line-left d) in
+    ((s .pre .0, rw (held .0 .1) room), (held .1, held .2, held .3, held .4))
 
 slice-aggregate-gather-line : tie.Need-slice-aggregate-gather-line Inv-loop μ-loop
-slice-aggregate-gather-line c = sym (c .before .before .before .before .loop .inv .1)
+slice-aggregate-gather-line c = sym (line-read (c .before .before .before .before .before) .reading .long)
 
 slice-aggregate-gather-line-2 : tie.Need-slice-aggregate-gather-line-2 Inv-loop μ-loop
-slice-aggregate-gather-line-2 c = sym (c .before .before .before .before .before .loop .inv .2)
+slice-aggregate-gather-line-2 c = sym (line-read (c .before .before .before .before .before .before) .carrying .long)
 
 slice-aggregate-gather-line-3 : tie.Need-slice-aggregate-gather-line-3 Inv-loop μ-loop
-slice-aggregate-gather-line-3 c = sym (c .before .before .before .before .before .before .loop .inv .3)
-
-slice-aggregate-gather-line-4 : tie.Need-slice-aggregate-gather-line-4 Inv-loop μ-loop
-slice-aggregate-gather-line-4 c = sym (c .before .before .before .before .before .before .before .loop .inv .4)
+slice-aggregate-gather-line-3 c = sym (line-read (c .before .before .before .before .before .before .before) .writing .long)
 
 gather-line-requires : tie.Need-gather-line-requires Inv-loop μ-loop
 gather-line-requires c κs =
-    let d = c .before .before .before .before .before .before in
-    let s = start (d .before) in
-    let held = d .before .loop .inv in
-    ((s .pre .0, line-left d), ((held .1, held .2, held .3, held .4), held .0 .gathered))
+    let d = c .before .before .before .before .before .before .before .before .before in
+    let a = turn d .before in
+    let s = start a in
+    (s .pre .0, (s .args .file .now, line-read d, a .loop .inv .0 .0 .gathered))
 
-enum-known-gathered : tie.Need-enum-known-gathered Inv-loop μ-loop
-enum-known-gathered c = search needs
+enum-known-tested : tie.Need-enum-known-tested Inv-loop μ-loop
+enum-known-tested c = search needs
 
 same-length : tie.Need-same-length Inv-loop μ-loop
 same-length c =
     let d = line-refused c in
     let a = test d .before in
-    d .gather-line .kept .1 .1 .1 .0 ∙ a .loop .inv .0 .gathered .long ∙ sym (start a .pre .1 .long)
+    d .gather-line .kept .1 .1 .1 .1 .1 .0 ∙ a .loop .inv .0 .0 .gathered .long ∙ sym (start a .pre .1 .long)
 
 same-length-2 : tie.Need-same-length-2 Inv-loop μ-loop
 same-length-2 c =
     let d = line-refused c in
     let a = test d .before in
-    d .gather-line .kept .1 .1 .1 .1 .0 ∙ a .loop .inv .0 .gathered .long′ ∙ sym (start a .pre .1 .long′)
+    d .gather-line .kept .1 .1 .1 .1 .1 .1 .0 ∙ a .loop .inv .0 .0 .gathered .long′ ∙ sym (start a .pre .1 .long′)
 
 returns : tie.Need-returns Inv-loop μ-loop
 returns c =
     let d = line-refused c in
-    gathering-refused (test d .before .loop .inv .0) (line-left (test d)) (gathers d _ (c .before .gathered .given .1))
+    gathering-refused (test d .before .loop .inv .0 .0) (line-left (test d)) (gathers d _ (c .before .tested .given .1))
 
 enum-told : tie.Need-enum-told Inv-loop μ-loop
 enum-told c = search needs
 
 add-t : tie.Need-add-t Inv-loop μ-loop
-add-t c = search needs
+add-t c =
+    let d = test (line-passed c) in
+    record { fits = omega (arith, line-left d, cycles-few (start (d .before) .pre .0 .dims)) }
 
 loop-less : tie.Need-loop-less Inv-loop μ-loop
-loop-less c = omega arith
+loop-less c = omega (arith, test (line-passed c) .loop-test .taken)
 
 loop-again : tie.Need-loop-again Inv-loop μ-loop
 loop-again c =
-    let d = line-gathered c in
-    let kept = d .gather-line .kept .1 .1 .1 .1 .1 in
-    let held = test d .before .loop .inv in (
-      gathering-more (held .0) (line-left (test d)) (gathers d _ (c .enum-told .given .1)),
+    let d = line-passed c in
+    let r = read d in
+    let a = test d .before in
+    let s = start a in
+    let n = s .args .shape .words in
+    let w = s .args .shape .width in
+    let held = a .loop .inv in
+    let kept = r .line-at .kept .1 .1 .1 in
+    let further = r .line-at .ensures .0 ∙ ap (λ (x : Cursor). onward x (lineBits n w)) (held .0 .1) ∙ behind-more n w (a .loop .t) in (
+      (gathering-more (held .0 .0) (line-left (test d)) (gathers d _ (c .enum-told .given .1)), further),
       kept .0 ∙ held .1,
       kept .1 .0 ∙ held .2,
       kept .1 .1 .0 ∙ held .3,
@@ -127,15 +178,21 @@ loop-again c =
     )
 
 same-length-3 : tie.Need-same-length-3 Inv-loop μ-loop
-same-length-3 c = c .before .loop .inv .0 .gathered .long ∙ sym (c .before .before .before .before .before .pre .1 .long)
+same-length-3 c = c .before .loop .inv .0 .0 .gathered .long ∙ sym (start (c .before) .pre .1 .long)
 
 same-length-4 : tie.Need-same-length-4 Inv-loop μ-loop
-same-length-4 c = c .before .loop .inv .0 .gathered .long′ ∙ sym (c .before .before .before .before .before .pre .1 .long′)
+same-length-4 c = c .before .loop .inv .0 .0 .gathered .long′ ∙ sym (start (c .before) .pre .1 .long′)
 
 returns-2 : tie.Need-returns-2 Inv-loop μ-loop
 returns-2 c =
-    let s = c .before .before .before .before .before in
-    gathering-all (c .before .loop .inv .0) (rw (s .pre .0 .cycles) at (c .loop-test .left))
+    let a = c .before in
+    let s = start a in
+    let n = s .args .shape .words in
+    let w = s .args .shape .width in
+    let held = a .loop .inv .0 in
+    let over : cycles n w ≤ a .loop .t = rw (s .pre .0 .cycles) at (c .loop-test .left) in
+    let last : a .loop .t ≡ cycles n w = omega (arith, held .0 .upto) in
+    (held .1 ∙ ap (behindLines n w) last, gathering-all (held .0) over)
 
 pub gather-spec : {M : Type 1} → statement M
 gather-spec =
@@ -143,13 +200,18 @@ gather-spec =
     (tie.spec
     Inv-loop
     μ-loop
+    cursor-at-requires
     loop-holds
+    slice-aggregate-line-at
+    slice-aggregate-line-at-2
+    slice-aggregate-line-at-3
+    slice-aggregate-line-at-4
+    line-at-requires
     slice-aggregate-gather-line
     slice-aggregate-gather-line-2
     slice-aggregate-gather-line-3
-    slice-aggregate-gather-line-4
     gather-line-requires
-    enum-known-gathered
+    enum-known-tested
     same-length
     same-length-2
     returns

@@ -1,7 +1,7 @@
 -- `reading::gathering::read_leavers` meets its contract: the file has no form of a set, or a line is refused, or all lines passed and the
 -- gathered words are the inverse of the images that reading writes.
 use Prim.Native.Nat.{ℕ}
-use mathlib.Core.Path.{_≡_, sym, subst, _∙_}
+use mathlib.Core.Path.{_≡_, sym, ap, subst, _∙_}
 use mathlib.Core.List.{List}
 use borrow.Author.Needs.{needs}
 use lib.ListN.{replicate}
@@ -10,7 +10,10 @@ use Rattle.limits.specs.Limits.{mostWords, noWord}
 use Rattle.laws.specs.Tabulate.{overwrite}
 use Rattle.tables.specs.Format.{Shaped, openOf}
 use Rattle.tables.specs.Datapath.{imageOf}
+use Rattle.reading.specs.Reading.{readOutcome}
 use Rattle.reading.specs.inner.Gathering.{Gather, GathersAll}
+use Rattle.reading.specs.declared.Contents.{Contents}
+use Rattle.reading.specs.declared.Reading.the-variants.{Read}
 use Rattle.tables.specs.declared.Opened.the-variants.{Set}
 use Rattle.tables.specs.declared.Shape.{Shape}
 use Rattle.reading.specs.declared.gathering.Gathered.{Gathered}
@@ -75,8 +78,8 @@ gather-requires c κs = let k : tie.After-shape = c .before .before .before in (
 enum-known-refusal-2 : tie.Need-enum-known-refusal-2
 enum-known-refusal-2 c = search needs
 
-enum-told : tie.Need-enum-told
-enum-told c = search needs
+enum-known-cursor : tie.Need-enum-known-cursor
+enum-known-cursor c = search needs
 
 returns : tie.Need-returns
 returns c = λ images scratch l m.
@@ -101,17 +104,34 @@ returns-2 c = λ images scratch l m.
           absurd (zero-not-one (cc e)),
     )
 
+-- all lines passed
+abbrev gathered-accepted : tie.After-known-told4 → tie.After-gather
+gathered-accepted c = gathered-answer (c .before .before .before)
+
+all-gathered : (c : tie.After-known-told4) → Told (gathered-accepted c) (All (c .before .cursor .given .0 .0))
+all-gathered c = subst (Told (gathered-accepted c)) (c .before .cursor .given .1) (gathered-accepted c .gather .ensures)
+
+contents-of-requires : tie.Need-contents-of-requires
+contents-of-requires c κs = all-gathered c .0
+
 same-length-2 : tie.Need-same-length-2
 same-length-2 c = search needs
 
 returns-3 : tie.Need-returns-3
 returns-3 c = λ images scratch l m.
-    let g = gathered-answer (c .before .before) in
+    let told = c .before in
+    let g = gathered-accepted told in
     let k = shape-gathered g in
-    let all : Told g All = subst (Told g) (c .enum-told .given .1) (g .gather .ensures) in (
-      overwrite (shape-of k .words) (imageOf (shape-of k .words) (shape-of k .width) (start-shape k .args .file .now)) images,
-      gathered-reads (start-shape k .args .file .now) (opened k) (shaped k .dims) images scratch l m all,
-      leavers-inverse (shaped k .dims) all images,
+    let file = start-shape k .args .file .now in
+    let n = shape-of k .words in
+    let w = shape-of k .width in
+    let all = all-gathered told .1 in
+    let same = c .contents-of .ensures file in
+    let after = overwrite n (imageOf n w file) images in (
+      after,
+      ap (λ (x : Contents). readOutcome (Read x) after) same ∙ gathered-reads file (opened k) (shaped k .dims) images scratch l m all,
+      λ contents e.
+          leavers-inverse (shaped k .dims) all images contents (ap Read (sym same) ∙ e),
     )
 
 pub read-leavers-spec : {M : Type 1} → statement M
@@ -124,7 +144,8 @@ read-leavers-spec =
     slice-aggregate-gather
     gather-requires
     enum-known-refusal-2
-    enum-told
+    enum-known-cursor
+    contents-of-requires
     returns
     same-length
     returns-2

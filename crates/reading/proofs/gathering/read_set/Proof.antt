@@ -1,17 +1,19 @@
 -- `reading::gathering::read_set` meets its contract: each return stands at its place in the definition, and what was gathered are the images.
 use Prim.Native.Nat.{ℕ}
-use mathlib.Core.Path.{refl, sym, ap, subst, _∙_}
+use mathlib.Core.Path.{refl, sym, ap₂, subst, _∙_}
 use mathlib.Core.List.{List}
 use borrow.Author.Needs.{needs}
 use lib.ListN.{length}
 use Rattle.laws.specs.Tabulate.{overwrite}
 use Rattle.laws.proofs.Choices.{ifLt-yes, ifLt-no}
 use Rattle.laws.proofs.Tabulates.{overwrite-ext}
-use Rattle.reading.specs.Reading.{readOutcome, readAs, readLines}
+use Rattle.reading.specs.Reading.{readOutcome, readLines}
 use Rattle.tables.specs.Datapath.{imageOf}
-use Rattle.reading.specs.inner.Gathering.{Gather, GathersAll}
-use Rattle.reading.specs.declared.Reading.the-variants.{Refused}
+use Rattle.reading.specs.inner.Gathering.{GathersAll}
+use Rattle.reading.specs.declared.Contents.{Contents}
+use Rattle.reading.specs.declared.Reading.the-variants.{Read, Refused}
 use Rattle.reading.specs.declared.gathering.Gathered.{Gathered}
+use Rattle.reading.specs.declared.gathering.Gathered.the-variants.{All}
 use Rattle.reading.proofs.Gathers.{gather-none, gather-images, gather-scan}
 use Rattle.reading.proofs.gathering.read_set.Statement.{statement}
 use Rattle.reading.proofs.gathering.read_set.Tie as tie
@@ -39,8 +41,8 @@ gather-requires c κs = let s = c .before .before .before .before .before .befor
 enum-known-refusal : tie.Need-enum-known-refusal
 enum-known-refusal c = search needs
 
-enum-told : tie.Need-enum-told
-enum-told c = search needs
+enum-known-cursor : tie.Need-enum-known-cursor
+enum-known-cursor c = search needs
 
 slice-aggregate-write-images : tie.Need-slice-aggregate-write-images
 slice-aggregate-write-images c = search needs
@@ -55,8 +57,8 @@ roomy c = c .before .before .before
 abbrev start : tie.After-gather → tie.Start
 start c = roomy c .before .before .before .before .before
 
-abbrev gathered : tie.After-enum-told → tie.After-gather
-gathered c = c .before .before .before .before
+abbrev gathered : tie.After-known-told2 → tie.After-gather
+gathered c = c .before .before .before .before .before
 
 abbrev written : tie.After-slice-known2 → tie.After-write-images
 written c = c .before .before
@@ -75,24 +77,33 @@ returns-3 c =
     ifLt-no _ _ _ _ _ (roomy g .before .if1 .left)
     (ifLt-no _ _ _ _ _ (roomy g .if2 .left) (sym (stops (λ r. readOutcome (Refused r) images) _)))
 
+-- all lines passed
+all-gathered : (c : tie.After-known-told2) → Says (gathered c) (All (c .before .cursor .given .0 .0))
+all-gathered c = subst (Says (gathered c)) (c .before .cursor .given .1) (gathered c .gather .ensures)
+
+contents-of-requires : tie.Need-contents-of-requires
+contents-of-requires c κs = all-gathered (written c .before .before .before) .0
+
 same-length : tie.Need-same-length
 same-length c = search needs
 
 returns-4 : tie.Need-returns-4
 unfolding readLines
 returns-4 c =
-    let told = written c .before .before .before in
+    let write = written (c .before) in
+    let told = write .before .before .before in
     let g = gathered told in
     let s = start g in
     let n = s .args .shape .words in
     let w = s .args .shape .width in
+    let file = s .args .file .now in
     let images = s .args .images .now in
-    let all : Gather n w (s .args .file .now) _ _ _ = subst (Says g) (told .enum-told .given .1) (g .gather .ensures) in
-    let made = written c .write-images .ensures
-    ∙ overwrite-ext n _ (imageOf n w (s .args .file .now)) images (gather-images (s .pre .dims) all) in
+    let all = all-gathered told .1 in
+    let made = write .write-images .ensures ∙ overwrite-ext n _ (imageOf n w file) images (gather-images (s .pre .dims) all) in
     ifLt-no _ _ _ _ _ (roomy g .before .if1 .left)
     (ifLt-no _ _ _ _ _ (roomy g .if2 .left)
-    (ap (λ (xs : List ℕ). readAs n w (s .args .file .now) xs) made ∙ sym (gather-scan all (λ r. readOutcome (Refused r) images) _)))
+    (ap₂ (λ (k : Contents) (xs : List ℕ). readOutcome (Read k) xs) (c .contents-of .ensures file) made
+    ∙ sym (gather-scan all (λ r. readOutcome (Refused r) images) _)))
 
 pub read-set-spec : {M : Type 1} → statement M
 read-set-spec =
@@ -105,9 +116,10 @@ read-set-spec =
     slice-aggregate-gather-2
     gather-requires
     enum-known-refusal
-    enum-told
+    enum-known-cursor
     slice-aggregate-write-images
     write-images-requires
+    contents-of-requires
     returns-3
     same-length
     returns-4)

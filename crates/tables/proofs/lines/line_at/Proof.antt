@@ -1,58 +1,57 @@
--- `lines::line_at` meets its contract: each part of the line is read from where the shape says that it stands.
+-- `lines::line_at` meets its contract: the cursor is carried on from the read addresses to the switch bits and to the write addresses, so each
+-- part is read from where the one before it ended.
+use Prim.Native.Nat.{ℕ, _+_, _*_}
+use mathlib.Core.Path.{ap, _∙_}
 use native.Mathlib.Omega.{arith}
-use Rattle.tables.proofs.Opens.{shape-same}
-use Rattle.tables.proofs.Passes.{Fitting, line-fits, line-sized, line-read}
 use borrow.Author.Needs.{needs}
+use Rattle.bits.specs.Reading.{onward}
+use Rattle.tables.proofs.Cursors.{room-less, room-behind, carried-on}
+use Rattle.tables.proofs.Opens.{shape-same}
+use Rattle.tables.proofs.Passes.{Fitting, line-fits, line-sized, switches-read, line-read}
 use Rattle.tables.proofs.lines.line_at.Statement.{statement}
 use Rattle.tables.proofs.lines.line_at.Tie as tie
 
 -- ---- the places
 
-abbrev entry : tie.After-struct-known3 → tie.Start
-entry c = c .before .before .before .before .before .before .before .before
-
 abbrev start : tie.After-addresses → tie.Start
-start c = entry (c .before .before)
+start c = c .before .before .before .before .before .before .before
 
 abbrev read : tie.After-sources → tie.After-addresses
 read c = c .before .before .before .before .before
 
 abbrev carried : tie.After-addresses2 → tie.After-sources
-carried c = c .before .before .before .before .before .before .before
+carried c = c .before .before .before .before .before .before
 
 -- ---- the facts
 
-fits-known : (s : tie.Start) → Fitting (s .args .shape) (s .args .t)
-fits-known s = line-fits (s .pre .0 .dims) (shape-same (s .pre .0)) (s .pre .1 .0)
+-- the bits of a row of addresses
+abbrev row : tie.Start → ℕ
+row s = s .args .shape .width * s .args .shape .addressing
 
-mul-at : tie.Need-mul-at
-mul-at c = omega (arith, fits-known (c .before .before .before .before .before .before))
-
-add-at : tie.Need-add-at
-add-at c = omega (arith, fits-known (c .before .before .before .before .before .before .before))
-
-mul-row : tie.Need-mul-row
-mul-row c = omega (arith, fits-known (entry c))
+fits-known : (s : tie.Start) → Fitting (s .args .shape)
+fits-known s = line-fits (s .pre .0 .0 .dims) (shape-same (s .pre .0 .0))
 
 addresses-requires : tie.Need-addresses-requires
-addresses-requires c κs = let s = entry (c .before) in omega (arith, fits-known s, s .pre .1 .1)
-
-add-sources : tie.Need-add-sources
-add-sources c = omega (arith, fits-known (start (c .before .before)))
+addresses-requires c κs =
+    let s = c .before .before .before .before .before .before in
+    let f = fits-known s in
+    (f .addressing, f .width, room-less (s .pre .0 .1) (omega (arith, f .all)), s .pre .1 .1)
 
 sources-requires : tie.Need-sources-requires
 sources-requires c κs =
-    let s = start (c .before .before .before .before) in
-    (line-sized (s .pre .0 .dims) (shape-same (s .pre .0)), omega (arith, fits-known s, s .pre .1 .1))
-
-add-addresses : tie.Need-add-addresses
-add-addresses c = omega (arith, fits-known (start (read (c .before .before .before .before))))
-
-add-addresses-2 : tie.Need-add-addresses-2
-add-addresses-2 c = omega (arith, fits-known (start (read (c .before .before .before .before .before))))
+    let r = c .before .before .before .before in
+    let s = start r in
+    let f = fits-known s in
+    let room = room-behind (s .args .cursor) (row s) (r .addresses .ensures .0) {m = s .args .shape .switches} (s .pre .0 .1) (omega (arith, f .all)) in
+    (line-sized (s .pre .0 .0 .dims) (shape-same (s .pre .0 .0)), (f .lines, f .switches, room, s .pre .1 .0, s .pre .1 .2))
 
 addresses-requires-2 : tie.Need-addresses-requires-2
-addresses-requires-2 c κs = let s = start (read (c .before .before .before .before .before .before)) in omega (arith, fits-known s, s .pre .1 .1)
+addresses-requires-2 c κs =
+    let d = c .before .before .before .before .before in
+    let s = start (read d) in
+    let f = fits-known s in
+    let there = carried-on (s .args .cursor) (row s) (read d .addresses .ensures .0) (s .args .shape .switches) (d .sources .ensures .0) in
+    (f .addressing, f .width, room-behind (s .args .cursor) (row s + s .args .shape .switches) there (s .pre .0 .1) (omega (arith, f .all)), s .pre .1 .3)
 
 same-length : tie.Need-same-length
 same-length c = search needs
@@ -70,24 +69,24 @@ returns : tie.Need-returns
 returns c =
     let written = c .before .before in
     let d = carried written in
-    let s = start (read d) in
-    let standing = d .sources .ensures in (
-      standing .0,
-      line-read (s .pre .0 .dims) (shape-same (s .pre .0)) (read d .addresses .ensures) (standing .1) (written .addresses2 .ensures),
+    let r = read d in
+    let s = start r in
+    let file = s .args .file .now in
+    let same = shape-same (s .pre .0 .0) in
+    let there = carried-on (s .args .cursor) (row s) (r .addresses .ensures .0) (s .args .shape .switches) (d .sources .ensures .0) in
+    let end = carried-on (s .args .cursor) (row s + s .args .shape .switches) there (row s) (written .addresses2 .ensures .0) in (
+      end ∙ ap (onward (s .args .cursor)) (fits-known s .all),
+      switches-read _ _ file (s .args .cursor) same (r .addresses .ensures .0) (d .sources .ensures .1),
+      λ t stands. line-read _ _ file (s .args .cursor) same (r .addresses .ensures .0) t (d .sources .ensures .0) stands (r .addresses .ensures .1)
+          (d .sources .ensures .2) (written .addresses2 .ensures .1),
     )
 
 pub line-at-spec : {M : Type 1} → statement M
 line-at-spec =
     tie.close
     (tie.spec
-    mul-at
-    add-at
-    mul-row
     addresses-requires
-    add-sources
     sources-requires
-    add-addresses
-    add-addresses-2
     addresses-requires-2
     same-length
     same-length-2

@@ -1,10 +1,12 @@
 -- `lines::sources` meets its contract: the numbered lines are sent through the network all at once, if it has switches.
 use Prim.Native.Nat.{_≤_}
-use mathlib.Core.Path.{sym}
+use mathlib.Core.Path.{_≡_, sym, ap, _∙_}
 use native.Mathlib.Omega.{arith}
 use borrow.Author.Needs.{needs}
 use lib.ListN.{length}
 use lib.Seq.{length-take-le}
+use Rattle.bits.specs.Reading.{onward}
+use Rattle.bits.proofs.OnePass.{onward-none}
 use Rattle.tables.proofs.Passes.{fronts-sized, sources-routed, sources-straight}
 use Rattle.tables.proofs.lines.sources.Statement.{statement}
 use Rattle.tables.proofs.lines.sources.Tie as tie
@@ -24,7 +26,7 @@ standing-long : (c : tie.After-switches) → start (numbered c) .args .lines ≤
 standing-long c = omega (arith, numbered c .number .ensures .0, start (numbered c) .pre .1)
 
 setting-long : (c : tie.After-switches) → start (numbered c) .args .count ≤ length (c .switches .last .1 .1 .1 .0)
-setting-long c = omega (arith, c .switches .ensures .long, start (numbered c) .pre .1)
+setting-long c = omega (arith, c .switches .ensures .1 .long, start (numbered c) .pre .1)
 
 number-requires : tie.Need-number-requires
 number-requires c κs = search needs
@@ -35,7 +37,12 @@ same-length c = search needs
 returns : tie.Need-returns
 returns c =
     let d = c .before .before .before in
-    (start d .pre .1 .3, λ depth S. sources-straight depth _ S (c .if1 .taken) (d .number .ensures))
+    let s = start d in
+    let none : s .args .count ≡ 0 = c .if1 .taken in (
+      sym (onward-none (s .args .cursor)) ∙ ap (onward (s .args .cursor)) (sym none),
+      record { long = s .pre .1 .3; each = λ i l. absurd (omega arith) },
+      λ depth S. sources-straight depth _ S none (d .number .ensures),
+    )
 
 switches-requires : tie.Need-switches-requires
 switches-requires c κs = search needs
@@ -75,8 +82,9 @@ returns-2 c =
     let s = start (numbered d) in
     let setting = d .switches .last .1 .1 .1 .0 in
     let standing = numbered d .number .last .0 in (
-      d .switches .ensures .long,
-      λ depth S. sources-routed standing S (s .pre .1 .0) (d .switches .ensures) (numbered d .number .ensures)
+      d .switches .ensures .0,
+      d .switches .ensures .1,
+      λ depth S. sources-routed standing S (s .pre .1 .0) (d .switches .ensures .1) (numbered d .number .ensures)
           (routed .route .ensures depth (fronts-sized depth setting standing S (standing-long d) (setting-long d))),
     )
 

@@ -23,14 +23,11 @@ sub-found c = search needs
 sub-found-2 : tie.Need-sub-found-2 Inv-loop μ-loop
 sub-found-2 c = search needs
 
-cast-found : tie.Need-cast-found Inv-loop μ-loop
-cast-found c = search needs
-
 shr-found : tie.Need-shr-found Inv-loop μ-loop
 shr-found c = search needs
 
-cast-found-2 : tie.Need-cast-found-2 Inv-loop μ-loop
-cast-found-2 c = search needs
+cast-found : tie.Need-cast-found Inv-loop μ-loop
+cast-found c = search needs
 
 add-found : tie.Need-add-found Inv-loop μ-loop
 add-found c = search needs
@@ -69,9 +66,8 @@ spread-spec =
     loop-holds
     sub-found
     sub-found-2
-    cast-found
     shr-found
-    cast-found-2
+    cast-found
     add-found
     slice-write-found
     add-j

@@ -1,8 +1,13 @@
 -- `opening::open` meets its contract: the header's fields are what the definition reads, and each return is what the tests of such a
 -- header come to.
-use mathlib.Core.Path.{_≡_, refl, sym, _∙_}
+use Prim.Native.Nat.{ℕ, _/_, _%_, _^_}
+use mathlib.Core.Path.{_≡_, refl, sym, ap, _∙_}
+use native.Mathlib.Nat.{div-one}
 use borrow.Author.Needs.{needs}
 use Rattle.laws.proofs.Choices.{ifLt-yes}
+use Rattle.bits.specs.Bits.{field}
+use Rattle.bits.specs.declared.reader.Field.{Field}
+use Rattle.bits.proofs.Fields.{field-front, field-inside}
 use Rattle.tables.specs.Terms.{Dims, limitsOf}
 use Rattle.tables.specs.Header.{headerWords, headerWidth, headerZeros}
 use Rattle.tables.specs.Format.{openOf}
@@ -13,50 +18,44 @@ use Rattle.tables.proofs.opening.open.Statement.{statement}
 use Rattle.tables.proofs.opening.open.Tie as tie
 
 -- the header that was read, from the last test
-abbrev header : tie.Then3 → tie.After-field-at3
+abbrev header : tie.Then3 → tie.After-next-field
 header c = c .before .before .before .before .before
 
--- what the header says
-words-read : (c : tie.After-field-at3) → c .before .before .field-at .result ≡ headerWords (c .before .before .before .before .before .args .file .now)
+abbrev start : tie.After-next-field → tie.Start
+start c = c .before .before .before
+
+-- its three numbers are the front, the middle and the end of one field
+taken : (c : tie.After-next-field) → c .next-field .result .value ≡ field (start c .args .file .now) 0 24
+taken c = ap (λ (x : Field). x .value) (c .next-field .ensures)
+
+words-read : (c : tie.After-next-field) → c .next-field .result .value / 2 ^ 11 ≡ headerWords (start c .args .file .now)
 unfolding headerWords
-words-read c = c .before .before .field-at .ensures
+words-read c = ap (λ (x : ℕ). x / 2 ^ 11) (taken c) ∙ field-front (start c .args .file .now) 0 13 11
 
-width-read : (c : tie.After-field-at3) → c .before .field-at2 .result ≡ headerWidth (c .before .before .before .before .before .args .file .now)
+width-read : (c : tie.After-next-field) → c .next-field .result .value / 2 ^ 4 % 2 ^ 7 ≡ headerWidth (start c .args .file .now)
 unfolding headerWidth
-width-read c = c .before .field-at2 .ensures
+width-read c = ap (λ (x : ℕ). x / 2 ^ 4 % 2 ^ 7) (taken c) ∙ sym (field-inside (start c .args .file .now) 0 13 7 4)
 
-zeros-read : (c : tie.After-field-at3) → c .field-at3 .result ≡ headerZeros (c .before .before .before .before .before .args .file .now)
+zeros-read : (c : tie.After-next-field) → c .next-field .result .value % 2 ^ 4 ≡ headerZeros (start c .args .file .now)
 unfolding headerZeros
-zeros-read c = c .field-at3 .ensures
+zeros-read c = ap (λ (x : ℕ). x % 2 ^ 4) (taken c) ∙ sym (rw div-one at (field-inside (start c .args .file .now) 0 20 4 0))
 
 -- the limits are kept
-kept : (c : tie.After-enum-told2)
-    → limitsOf (c .before .before .before .before .before .before .field-at .result) (c .before .before .before .before .before .field-at2 .result) ≡ Kept
+kept : (c : tie.After-enum-told2) → let x = c .before .before .before .before .next-field .result .value in
+    limitsOf (x / 2 ^ 11) (x / 2 ^ 4 % 2 ^ 7) ≡ Kept
 kept c = sym (c .before .before .test-limits .ensures) ∙ c .enum-told2 .given .1
 
 returns : tie.Need-returns
 unfolding openOf
 returns c = ifLt-yes _ _ _ _ _ (c .if1 .taken) refl
 
-field-at-requires : tie.Need-field-at-requires
-field-at-requires c κs = search needs
-
-cast-words : tie.Need-cast-words
-cast-words c = search needs
-
-field-at-requires-2 : tie.Need-field-at-requires-2
-field-at-requires-2 c κs = search needs
-
-cast-width : tie.Need-cast-width
-cast-width c = search needs
-
-field-at-requires-3 : tie.Need-field-at-requires-3
-field-at-requires-3 c κs = search needs
+next-field-requires : tie.Need-next-field-requires
+next-field-requires c κs = search needs
 
 returns-2 : tie.Need-returns-2
 returns-2 c =
     let d = c .before in
-    sym (opened-zeros _ (words-read d) (width-read d) (zeros-read d) (d .before .before .before .if1 .left) (c .if2 .taken))
+    sym (opened-zeros _ (words-read d) (width-read d) (zeros-read d) (d .before .if1 .left) (c .if2 .taken))
 
 test-limits-requires : tie.Need-test-limits-requires
 test-limits-requires c κs = search needs
@@ -73,7 +72,7 @@ rem-if3 c = limits-kept _ _ (kept c) .wide
 -- the dimensions of a set, where w divides n too
 dims : (c : tie.Then3)
     → let d = header c in
-    Dims (d .before .before .field-at .result) (d .before .field-at2 .result)
+    Dims (d .next-field .result .value / 2 ^ 11) (d .next-field .result .value / 2 ^ 4 % 2 ^ 7)
 dims c = limited-dims (limits-kept _ _ (kept (c .before))) (c .if3 .taken)
 
 shape-of-requires : tie.Need-shape-of-requires
@@ -88,30 +87,26 @@ returns-3 c =
     let d = header e in
     c .open-whole .ensures
     ∙ rw (shape-words (dims e) (c .before .shape-of .ensures), shape-width (dims e) (c .before .shape-of .ensures))
-    (sym (opened-kept _ (words-read d) (width-read d) (zeros-read d) (d .before .before .before .if1 .left)
+    (sym (opened-kept _ (words-read d) (width-read d) (zeros-read d) (d .before .if1 .left)
     (e .before .before .before .before .if2 .left) (dims e)))
 
 returns-4 : tie.Need-returns-4
 returns-4 c =
     let d = c .before .before .before .before in
-    sym (opened-broken _ (words-read d) (width-read d) (zeros-read d) (d .before .before .before .if1 .left) _
+    sym (opened-broken _ (words-read d) (width-read d) (zeros-read d) (d .before .if1 .left) _
     (sym (c .before .before .test-limits .ensures) ∙ c .enum-told .given .1))
 
 returns-5 : tie.Need-returns-5
 returns-5 c =
     let d = c .before .before .before .before .before in
-    sym (opened-uneven _ (words-read d) (width-read d) (zeros-read d) (d .before .before .before .if1 .left) (kept (c .before)) (c .if3 .left))
+    sym (opened-uneven _ (words-read d) (width-read d) (zeros-read d) (d .before .if1 .left) (kept (c .before)) (c .if3 .left))
 
 pub open-spec : {M : Type 1} → statement M
 open-spec =
     tie.close
     (tie.spec
     returns
-    field-at-requires
-    cast-words
-    field-at-requires-2
-    cast-width
-    field-at-requires-3
+    next-field-requires
     returns-2
     test-limits-requires
     enum-told
