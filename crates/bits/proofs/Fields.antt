@@ -14,6 +14,7 @@ use lib.ListN.{length, getD, set, take, length-set, List·getD-eq-default}
 use lib.Pow.{high, low, mod-pow-add, pow-add, pow-mono, pow-pos, shl-shr, shr-shr}
 use lib.Seq.{ext-getD, getD-take, getD-set-same, getD-set-other, set-out}
 use Rattle.bits.specs.Bits.{Bytes, digit, withDigits, bit, field, putBit, putField}
+use Rattle.bits.specs.Reading.{WithZeros}
 use Rattle.bits.proofs.Digits.{digit-lt, digit-zero, digit-div, digit-high, digits-ext, digit-withDigits-inside, digit-withDigits-below, digit-withDigits-above, withDigits-lt}
 
 -- ---- bits
@@ -73,6 +74,14 @@ unfolding field
 field-cong xs ys at zero same = refl
 field-cong xs ys at (suc w) same =
     ap₂ (λ (hi lo : ℕ). hi * 2 + lo) (field-cong xs ys at w (λ j h. same j (omega arith))) (same w (omega arith))
+
+-- A short list and the same with zeros behind it have the same bits, and so the same fields.
+pub bit-zeros : {xs ys : List ℕ} → WithZeros xs ys → (i : ℕ) → bit ys i ≡ bit xs i
+unfolding bit
+bit-zeros Z i = ap (λ (x : ℕ). digit x (7 - i % 8)) (Z .same (i / 8))
+
+pub field-zeros : {xs ys : List ℕ} → WithZeros xs ys → (at w : ℕ) → field ys at w ≡ field xs at w
+field-zeros {xs} {ys} Z at w = field-cong ys xs at w (λ j l. bit-zeros Z (at + j))
 
 -- A field that ends within the first k bytes is one of theirs.
 pub field-take : (k : ℕ) (xs : List ℕ) (at w : ℕ) → at + w ≤ 8 * k → field (take k xs) at w ≡ field xs at w

@@ -1,6 +1,6 @@
--- What the code does to a window, a number of 24 digits, is what `field` and `putField` say of the list of bytes. The idea: the bits of
--- three bytes are the digits of their window, so a field is read by a shift and a mask (`field-window`); and the list that the code leaves
--- has each bit of `putField`'s list, so the two are equal (`putField-window`). Assumes nothing.
+-- What the code that puts a field does to a window, a number of 24 digits, is what `putField` says of the list of bytes. The idea: the
+-- bits of three bytes are the digits of their window, so the list that the code leaves has each bit of `putField`'s list, and the two are
+-- equal (`putField-window`). Assumes nothing.
 use Prim.Native.Nat.{ℕ, suc, _+_, _-_, _*_, _/_, _%_, _^_, _<_, _≤_}
 use mathlib.Core.List.{List}
 use mathlib.Core.Logic.{_≢_, _⊎_, inl, inr, ⊎-elim}
@@ -9,10 +9,10 @@ use native.Mathlib.Decide.{decLt}
 use native.Mathlib.Omega.{arith}
 use lib.ListN.{length, getD, set, length-set}
 use lib.Seq.{getD-set-same, getD-set-other}
-use Rattle.bits.specs.Bits.{Bytes, digit, withDigits, bit, field, putField}
+use Rattle.bits.specs.Bits.{Bytes, digit, withDigits, bit, putField}
 use Rattle.bits.specs.inner.Window.{windowOf, putWindow}
 use Rattle.bits.proofs.Digits.{digit-div, digit-mod, digit-high, digit-low, digit-withDigits-inside, digit-withDigits-below, digit-withDigits-above, withDigits-lt}
-use Rattle.bits.proofs.Fields.{bit-byte, bits-ext, set-bytes, field-digits, length-putField, putField-bytes, bit-putField-inside, bit-putField-outside}
+use Rattle.bits.proofs.Fields.{bit-byte, bits-ext, set-bytes, length-putField, putField-bytes, bit-putField-inside, bit-putField-outside}
 
 -- ---- the window is read
 
@@ -42,16 +42,6 @@ bit-window {xs} bx f i l h = by-byte (decLt i (8 * f + 8)) (decLt i (8 * f + 16)
         let e : 8 * f + 23 - i ≡ 8 * (f + 2) + 7 - i = omega arith in
         rw (e, digit-low two (getD xs (f + 2) 0) 8 (8 * (f + 2) + 7 - i) (omega arith))
         (bit-byte xs (f + 2) i (omega arith) (omega arith))
-
--- A field is read from the window of its first byte by a shift and a mask.
-pub field-window : {xs : List ℕ} → Bytes xs → (at w : ℕ) → at % 8 + w ≤ 24
-    → field xs at w ≡ windowOf xs (at / 8) / 2 ^ (24 - at % 8 - w) % 2 ^ w
-field-window {xs} bx at w h = field-digits xs at w (windowOf xs (at / 8) / 2 ^ (24 - at % 8 - w)) digits
-  where
-    digits : (j : ℕ) → j < w → bit xs (at + j) ≡ digit (windowOf xs (at / 8) / 2 ^ (24 - at % 8 - w)) (w - suc j)
-    digits j l =
-        let e : 8 * (at / 8) + 23 - (at + j) ≡ 24 - at % 8 - w + (w - suc j) = omega arith in
-        bit-window bx (at / 8) (at + j) (omega arith) (omega arith) ∙ rw (e, digit-div)
 
 -- ---- the window is put
 

@@ -3,7 +3,7 @@ use Prim.Native.Nat.{ℕ, _+_, _^_, _<_}
 use mathlib.Core.Path.{_≡_}
 use mathlib.Core.List.{List, [], _∷_, _++_}
 use denote.Ref.{now}
-use lib.ListN.{length}
+use lib.ListN.{length, getD}
 use Rattle.laws.specs.Tabulate.{tabulate}
 use Rattle.bits.specs.Bits.{bit, field, digits}
 use Rattle.bits.specs.declared.reader.Cursor.{Cursor}
@@ -30,6 +30,11 @@ takenFrom reader w = record {
   value = field (now (reader .bytes)) (reader .cursor .at) w;
   rest = record { bytes = reader .bytes; cursor = onward (reader .cursor) w };
 }
+
+-- Eight bytes that read as a shorter list does: its own, and zeros behind them.
+pub record WithZeros (bytes longer : List ℕ) : Type 0 where
+  pub long : length longer ≡ 8
+  pub same : (i : ℕ) → getD longer i 0 ≡ getD bytes i 0
 
 -- ---- fields taken one after the other, each from where the one before it ended
 

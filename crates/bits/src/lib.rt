@@ -1,10 +1,11 @@
 // Fields of bits in a slice of bytes, most significant bit first. At most 7 bits stand before a field in its first byte, so a field of at
 // most 57 bits lies in eight bytes, and one of at most 16 bits in three. Reading takes the eight bytes as one number and cuts the field out
-// by shifts. Putting, and reading a slice of fewer than eight bytes, takes three bytes as one number of 24 binary digits, the window.
+// by shifts. Putting takes three bytes as one number of 24 binary digits, the window.
 ghost use mathlib.Core.Path.{_≡_};
 ghost use Prim.Native.Nat.{_+_, _*_, _^_, _<_, _≤_};
 ghost use lib.ListN.{length, getD, set};
 ghost use Rattle.bits.specs.Bits.{withDigits, field, putField};
+ghost use Rattle.bits.specs.Reading.{WithZeros};
 ghost use Rattle.bits.specs.inner.Window.{windowOf, putWindow};
 
 mod reader;
@@ -55,38 +56,36 @@ fn eight_bytes(bytes: &[u8], first: usize) -> u64
     number
 }
 
-// The number in the `width` bits from bit `at`; a bit past the end is 0. It looks at three bytes, and takes what does not lie in them 16 bits
-// at a time. It calls itself, so the compiler leaves it out of the loops that take fields.
-fn digits_by_windows(bytes: &[u8], at: usize, width: usize) -> u64
-    requires { ⌜ (width ≤ 57) × (at + width < 2 ^ 64) ⌝ }
+// The number in the `width` bits from bit `at`; a bit past the end is 0. The field is cut out of eight bytes from its first byte on. Near the
+// end of the slice they are its last eight, and zeros are shifted in behind them. The reader takes its fields by it.
+// It is private, so it may require eight bytes, and a width whose field lies in them: 64 bits less the at most 7 before it.
+fn digits_at(bytes: &[u8], at: usize, width: usize) -> u64
+    requires { ⌜ (width ≤ 57) × (8 ≤ length (now bytes)) ⌝ }
     ensures { λ r. ⌜ r ≡ field (now (bytes .entry)) at width ⌝ }
 {
-    let end = at % 8 + width;
-    if end <= 24 {
-        return ((window_at(bytes, at / 8) >> (24 - end)) % (1u32 << width)) as u64;
+    let first = at / 8;
+    let last = bytes.len() - 8;
+    let start = if first < last { first } else { last };
+    let before = at - 8 * start;
+    if before < 64 {
+        // The first shift drops the bits before the field, the others those behind it. They are two, as none may be by 64.
+        return ((eight_bytes(bytes, start) << before) >> 1) >> (63 - width);
     }
-    let rest = width - 16;
-    (digits_by_windows(bytes, at, rest) << 16) + digits_by_windows(bytes, at + rest, 16)
+    0
 }
 
-// The same from eight bytes at once, where the slice has so many. Near its end they are its last eight, and zeros are shifted in behind them.
-// The reader takes its fields by it. It is private, so it may require a width whose field lies in eight bytes: 64 bits less the at most 7
-// before it.
-fn digits_at(bytes: &[u8], at: usize, width: usize) -> u64
-    requires { ⌜ (width ≤ 57) × (at + width < 2 ^ 64) ⌝ }
-    ensures { λ r. ⌜ r ≡ field (now (bytes .entry)) at width ⌝ }
+// The bytes of a short slice, with zeros behind them, so that fields can be taken from them. Only our own crates call it, with fewer than eight.
+pub fn with_zeros(bytes: &[u8]) -> [u8; 8]
+    requires { ⌜ length (now bytes) < 8 ⌝ }
+    ensures { λ r. ⌜ WithZeros (now (bytes .entry)) r ⌝ }
 {
-    if 8 <= bytes.len() {
-        let first = at / 8;
-        let last = bytes.len() - 8;
-        let start = if first < last { first } else { last };
-        let before = at - 8 * start;
-        if before < 64 {
-            // The first shift drops the bits before the field, the others those behind it. They are two, as none may be by 64.
-            return ((eight_bytes(bytes, start) << before) >> 1) >> (63 - width);
-        }
+    let mut longer = [0u8; 8];
+    let mut i = 0;
+    while i < bytes.len() {
+        longer[i] = bytes[i];
+        i += 1;
     }
-    digits_by_windows(bytes, at, width)
+    longer
 }
 
 // `old` with `value` for its `width` binary digits above the `below` lowest.

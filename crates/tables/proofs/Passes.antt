@@ -9,15 +9,16 @@ use lib.Pow.{pow-pos}
 use lib.Seq.{length-take-le, getD-take}
 use Rattle.limits.specs.Limits.{mostWidth, mostSwitches}
 use Rattle.bits.specs.Bits.{bit}
-use Rattle.bits.specs.Reading.{onward}
+use Rattle.bits.specs.Reading.{WithZeros, onward}
 use Rattle.bits.specs.declared.reader.Cursor.{Cursor}
+use Rattle.bits.proofs.Fields.{bit-zeros, field-zeros}
 use Rattle.network.specs.Network.{bitCount, leaves}
 use Rattle.network.specs.inner.Sizes.{Sized}
 use Rattle.passing.specs.inner.Steps.{Routed}
 use Rattle.network.proofs.Leaves.{leaves-ext, leaves-below}
 use Rattle.tables.specs.Terms.{Dims, depth, switchBits, addressRow, lineBits}
 use Rattle.tables.specs.Format.{lineAt, shapeOf}
-use Rattle.tables.specs.inner.Lines.{Addresses, Switches, Sources, Line}
+use Rattle.tables.specs.inner.Lines.{Addresses, Switches, Sources, Line, LineTaken}
 use Rattle.tables.specs.declared.Shape.{Shape}
 use Rattle.tables.proofs.Dims.{addressBits-few, lines-few, switchBits-few}
 
@@ -97,4 +98,30 @@ module _ (n w : ℕ) {s : Shape} (file : List ℕ) (cursor : Cursor) {behind-rea
     reading = rw (stands, e) at reading;
     carrying = (rw (first, stands, e) at carrying) (depth w) (refl, refl);
     writing = rw (second, first, stands, e) at writing;
+  }
+
+-- what was read of a short file with zeros behind it is the file's
+module _ {file longer : List ℕ} (Z : WithZeros file longer) where
+  addresses-zeros : {at address count : ℕ} {found : List ℕ} → Addresses longer at address count found → Addresses file at address count found
+  addresses-zeros {at} {address} A = record { long = A .long; each = λ b l. A .each b l ∙ field-zeros Z (at + b * address) address }
+
+  switches-zeros : {at count : ℕ} {found : List ℕ} → Switches longer at count found → Switches file at count found
+  switches-zeros {at} S = record { long = S .long; each = λ i l. S .each i l ∙ bit-zeros Z (at + i) }
+
+  sources-zeros : {d at : ℕ} {found : List ℕ} → Sources d longer at found → Sources d file at found
+  sources-zeros {d} {at} {found} S = record {
+    long = S .long;
+    each = λ x l.
+        let same = leaves-ext d (λ i. bit file (at + i)) (λ i. bit longer (at + i)) (λ i m. sym (bit-zeros Z (at + i))) x l in
+        ap (λ (y : ℕ). getD found y 0) same ∙ S .each x l;
+  }
+
+  pub taken-zeros : {n w : ℕ} {cursor behind : Cursor} {setting reads sources writes : List ℕ}
+      → LineTaken n w longer cursor behind setting reads sources writes → LineTaken n w file cursor behind setting reads sources writes
+  taken-zeros L = record {
+    moved = L .moved;
+    switching = switches-zeros (L .switching);
+    line = λ t stands.
+        let line = L .line t stands in
+        record { reading = addresses-zeros (line .reading); carrying = sources-zeros (line .carrying); writing = addresses-zeros (line .writing) };
   }

@@ -7,16 +7,17 @@ ghost use Rattle.limits.specs.Limits.{mostWidth, mostSwitches};
 ghost use Rattle.laws.specs.Any.{any};
 ghost use Rattle.bits.specs.Reading.{Room, onward};
 ghost use Rattle.network.specs.inner.Sizes.{Sized};
-ghost use Rattle.tables.specs.Terms.{cycles, switchBits, addressRow, lineBits};
-ghost use Rattle.tables.specs.Format.{Shaped, lineAt, cursorAt};
-ghost use Rattle.tables.specs.inner.Lines.{Addresses, Spread, Switches, Sources, Line, spareUsed};
+ghost use Rattle.tables.specs.Terms.{cycles, lineBits};
+ghost use Rattle.tables.specs.Format.{Shaped, cursorAt};
+ghost use Rattle.tables.specs.inner.Lines.{Addresses, Spread, Switches, Sources, LineTaken, spareUsed};
 use crate::Shape;
 use bits::Cursor;
 use limits::MOST_WIDTH;
 
 // The `count` addresses of `address` bits each that come next, and the cursor behind them.
 fn addresses(file: &[u8], cursor: Cursor, address: usize, count: usize, found: &mut [u16]) -> Cursor
-    requires { ⌜ (address ≤ 16) × (count ≤ mostWidth) × Room cursor (count * address) × (length (now found) ≡ mostWidth) ⌝ }
+    requires { ⌜ (8 ≤ length (now file)) × (address ≤ 16) × (count ≤ mostWidth) × Room cursor (count * address)
+        × (length (now found) ≡ mostWidth) ⌝ }
     ensures { λ r. ⌜ (r ≡ onward cursor (count * address))
         × Addresses (now (file .entry)) (cursor .at) address count (now (found .exit)) ⌝ }
 {
@@ -45,7 +46,7 @@ fn spread(number: u64, count: usize, found: &mut [u8], from: usize)
 
 // The `count` switch bits that come next, and the cursor behind them. They are taken 57 at a time, the most that a field has.
 fn switches(file: &[u8], cursor: Cursor, count: usize, found: &mut [u8]) -> Cursor
-    requires { ⌜ (count ≤ mostSwitches) × Room cursor count × (length (now found) ≡ mostSwitches) ⌝ }
+    requires { ⌜ (8 ≤ length (now file)) × (count ≤ mostSwitches) × Room cursor count × (length (now found) ≡ mostSwitches) ⌝ }
     ensures { λ r. ⌜ (r ≡ onward cursor count) × Switches (now (file .entry)) (cursor .at) count (now (found .exit)) ⌝ }
 {
     let mut next = cursor;
@@ -85,7 +86,7 @@ fn sources(
     standing: &mut [u8],
 ) -> Cursor
     requires { ⌜ ((d : ℕ) × Sized lines count d) ⌝ }
-    requires { ⌜ (lines ≤ mostWidth) × (count ≤ mostSwitches) × Room cursor count
+    requires { ⌜ (8 ≤ length (now file)) × (lines ≤ mostWidth) × (count ≤ mostSwitches) × Room cursor count
         × (length (now setting) ≡ mostSwitches) × (length (now standing) ≡ mostWidth) ⌝ }
     ensures { λ r. ⌜ (r ≡ onward cursor count) × Switches (now (file .entry)) (cursor .at) count (now (setting .exit))
         × ((d : ℕ) → Sized lines count d → Sources d (now (file .entry)) (cursor .at) (now (standing .exit))) ⌝ }
@@ -110,6 +111,27 @@ pub fn cursor_at(shape: Shape, t: usize) -> Cursor
     }
 }
 
+// What the line does that comes next, in a file of at least eight bytes; `line_at` says the rest.
+fn line_from(
+    file: &[u8],
+    shape: Shape,
+    cursor: Cursor,
+    setting: &mut [u8],
+    reads: &mut [u16],
+    standing: &mut [u8],
+    writes: &mut [u16],
+) -> Cursor
+    requires { ⌜ Shaped shape × Room cursor (lineBits (shape .words) (shape .width)) × (8 ≤ length (now file)) ⌝ }
+    requires { ⌜ (length (now setting) ≡ mostSwitches) × (length (now reads) ≡ mostWidth)
+        × (length (now standing) ≡ mostWidth) × (length (now writes) ≡ mostWidth) ⌝ }
+    ensures { λ r. ⌜ LineTaken (shape .words) (shape .width) (now (file .entry)) cursor r (now (setting .exit)) (now (reads .exit))
+        (now (standing .exit)) (now (writes .exit)) ⌝ }
+{
+    let read = addresses(file, cursor, shape.addressing, shape.width, reads);
+    let carried = sources(file, read, shape.lines, shape.switches, setting, standing);
+    addresses(file, carried, shape.addressing, shape.width, writes)
+}
+
 // What the line does that comes next in a set, and the cursor behind it: the switch bits, the address that each bank of the first memory
 // reads, the line that leaves the network on each line, and the address that each bank of the second memory writes. Only the entries of the
 // set's banks and lines count. The caller lends the arrays, so that they are made once for many lines. Only our own crates call it.
@@ -125,14 +147,14 @@ pub fn line_at(
     requires { ⌜ Shaped shape × Room cursor (lineBits (shape .words) (shape .width)) ⌝ }
     requires { ⌜ (length (now setting) ≡ mostSwitches) × (length (now reads) ≡ mostWidth)
         × (length (now standing) ≡ mostWidth) × (length (now writes) ≡ mostWidth) ⌝ }
-    ensures { λ r. ⌜ (r ≡ onward cursor (lineBits (shape .words) (shape .width)))
-        × Switches (now (file .entry)) (cursor .at + addressRow (shape .words) (shape .width)) (switchBits (shape .width)) (now (setting .exit))
-        × ((t : ℕ) → cursor .at ≡ lineAt (shape .words) (shape .width) t
-        → Line (shape .words) (shape .width) (now (file .entry)) t (now (reads .exit)) (now (standing .exit)) (now (writes .exit))) ⌝ }
+    ensures { λ r. ⌜ LineTaken (shape .words) (shape .width) (now (file .entry)) cursor r (now (setting .exit)) (now (reads .exit))
+        (now (standing .exit)) (now (writes .exit)) ⌝ }
 {
-    let read = addresses(file, cursor, shape.addressing, shape.width, reads);
-    let carried = sources(file, read, shape.lines, shape.switches, setting, standing);
-    addresses(file, carried, shape.addressing, shape.width, writes)
+    if file.len() < 8 {
+        let longer = bits::with_zeros(file);
+        return line_from(&longer, shape, cursor, setting, reads, standing, writes);
+    }
+    line_from(file, shape, cursor, setting, reads, standing, writes)
 }
 
 // Each of 64 lines with its own number. Only our own crates need it.

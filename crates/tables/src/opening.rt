@@ -106,6 +106,18 @@ fn open_whole(file: &[u8], shape: Shape) -> Opened
     Opened::Refused(Refusal::FileLong)
 }
 
+// The header's bits as one number: 13 for n, 7 for w and 4 that are 0.
+fn header_of(file: &[u8]) -> usize
+    ensures { λ r. ⌜ r ≡ field (now (file .entry)) 0 24 ⌝ }
+{
+    let start = Cursor { at: 0, handed: 0 };
+    if file.len() < 8 {
+        let longer = bits::with_zeros(file);
+        return bits::next_field(&longer, start, HEADER_BITS).value as usize;
+    }
+    bits::next_field(file, start, HEADER_BITS).value as usize
+}
+
 // Whether a file has the form of a set, and its shape: the header, the length, the filling bits.
 pub fn open(file: &[u8]) -> Opened
     ensures { λ r. ⌜ r ≡ openOf (now (file .entry)) ⌝ }
@@ -113,9 +125,7 @@ pub fn open(file: &[u8]) -> Opened
     if file.len() < LEAST_HEADER {
         return Opened::Refused(Refusal::FileShort);
     }
-    // 13 bits for n, 7 for w and 4 that are 0, in one field.
-    let start = Cursor { at: 0, handed: 0 };
-    let header = bits::next_field(file, start, HEADER_BITS).value as usize;
+    let header = header_of(file);
     let words = header >> 11;
     let width = (header >> 4) % 128;
     if header % 16 != 0 {

@@ -1,5 +1,5 @@
--- The window: three bytes in a row as one number of 24 binary digits. A field of at most 16 bits lies in the window that starts at the byte
--- of its first bit.
+-- The window, by which a field is put: three bytes in a row as one number of 24 binary digits. A field of at most 16 bits lies in the
+-- window that starts at the byte of its first bit.
 use Prim.Native.Nat.{ℕ, _+_, _*_, _/_, _%_, _^_}
 use mathlib.Core.List.{List}
 use lib.ListN.{getD, set}

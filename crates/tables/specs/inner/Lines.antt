@@ -8,8 +8,10 @@ use lib.ListN.{length, getD}
 use Rattle.limits.specs.Limits.{mostWidth, mostSwitches}
 use Rattle.laws.specs.Any.{any}
 use Rattle.bits.specs.Bits.{digit, bit, field}
+use Rattle.bits.specs.Reading.{onward}
+use Rattle.bits.specs.declared.reader.Cursor.{Cursor}
 use Rattle.network.specs.Network.{leaves}
-use Rattle.tables.specs.Terms.{addressBits, depth, switchBits, addressRow}
+use Rattle.tables.specs.Terms.{addressBits, depth, switchBits, addressRow, lineBits}
 use Rattle.tables.specs.Format.{lineAt}
 
 -- the addresses that stand from bit `at` on
@@ -38,6 +40,12 @@ pub record Line (n w : ℕ) (file : List ℕ) (t : ℕ) (reads sources writes : 
   pub reading : Addresses file (lineAt n w t) (addressBits n w) w reads
   pub carrying : Sources (depth w) file (lineAt n w t + addressRow n w) sources
   pub writing : Addresses file (lineAt n w t + addressRow n w + switchBits w) (addressBits n w) w writes
+
+-- the line that comes next at a cursor was taken, whatever its number, and `behind` stands behind it
+pub record LineTaken (n w : ℕ) (file : List ℕ) (cursor behind : Cursor) (setting reads sources writes : List ℕ) : Type 0 where
+  pub moved : behind ≡ onward cursor (lineBits n w)
+  pub switching : Switches file (cursor .at + addressRow n w) (switchBits w) setting
+  pub line : (t : ℕ) → cursor .at ≡ lineAt n w t → Line n w file t reads sources writes
 
 -- a line below the width stands on a spare line
 unfoldable pub spareUsed : List ℕ → ℕ → ℕ → Bool

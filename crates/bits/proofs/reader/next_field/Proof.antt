@@ -3,7 +3,7 @@
 -- say the result.
 -- A local has its struct's type at the lifetime `erased`; what the struct owns does not name a lifetime, so its value has this type too.
 -- Assumes nothing.
-use mathlib.Core.Path.{_≡_, refl, sym, subst, ap, ap₂, _∙_}
+use mathlib.Core.Path.{_≡_, refl, ap, ap₂, _∙_}
 use Prim.Native.Nat.{ℕ, _<_, _≤_, _^_}
 use mathlib.Core.List.{List, [], _∷_}
 use lib.ListN.{length}
@@ -123,10 +123,10 @@ module _ {M : Type 1} (𝓤 : URA M) (H : Heap 𝓤) (A : Atoms 𝓤) (W : Given
   abbrev to-take : Reader → Val → Take 𝓤 H A mem run .Ghost
   to-take r u = (((κ, tt), (q, tt), tt, (r, (w, tt)), (u ∷ [], (vint w64 w ∷ [], tt))), tt)
 
-  goes-take : w ≤ 57 → Room c w → (r : Reader) (u : Val) → Made r
+  goes-take : w ≤ 57 → 8 ≤ length (now s) → Room c w → (r : Reader) (u : Val) → Made r
       → ent 𝓤 (⋆ 𝓤 H A (‵ (Row (κ, tt) .own r (u ∷ [])) ∷ (‵ (flft κ q) ⊛ ‵ ftrue) ∷ [])) (Take 𝓤 H A mem run .pre (to-take r u))
-  goes-take ok room r u made =
-      qed W (‵ (Row (κ, tt) .own r (u ∷ [])) ∷ (‵ (flft κ q) ⊛ ‵ ftrue) ∷ []) ∵ says ! (ok, subst (λ (x : Cursor). Room x w) (sym (made .1)) room) $
+  goes-take ok long room r u made =
+      qed W (‵ (Row (κ, tt) .own r (u ∷ [])) ∷ (‵ (flft κ q) ⊛ ‵ ftrue) ∷ []) ∵ says ! (ok, rw (made .0) long, rw (made .1) room) $
       nothing ! $ number ! w w-fits $ fjoin ! $ move ! (1 ∷ 0 ∷ []) $ fjoin ! $ move ! (1 ∷ 0 ∷ []) $ frame ! $ done !
 
   abbrev Row-taken : RattleType
@@ -154,10 +154,10 @@ module _ {M : Type 1} (𝓤 : URA M) (H : Heap 𝓤) (A : Atoms 𝓤) (W : Given
 
   module _ (C : Calls 𝓤 H) (Λ : Loops 𝓤 H) (fm : FmC 𝓤 H (W .laws) C) (known-reader-at : Triple 𝓤 (C #bits·reader·reader-at) (ReaderAt 𝓤 H A mem run))
       (known-take : Triple 𝓤 (C #bits·reader·take) (Take 𝓤 H A mem run)) where
-    walk : Is (ShrSlice (named 0) κ u8) s (v ∷ []) → w ≤ 57 → Room c w
+    walk : Is (ShrSlice (named 0) κ u8) s (v ∷ []) → w ≤ 57 → 8 ≤ length (now s) → Room c w
         → ent 𝓤 (onEntry 𝓤 H A next-field.signature (κ, tt) (q, tt) (s, (c, (w, tt))) vals)
         (WpFn 𝓤 H C Λ code.function (v ∷ Cur′.lowered c ∷ vint w64 w ∷ []) Post)
-    walk p ok room =
+    walk p ok long room =
         qed W (raw (onEntry 𝓤 H A next-field.signature (κ, tt) (q, tt) (s, (c, (w, tt))) vals) ∷ []) ∵
         enter ! C Λ code.function (v ∷ Cur′.lowered c ∷ vint w64 w ∷ []) _ $
         alloc1 ! (λ l₀. alloc1 ! (λ l₁. alloc1 ! (λ l₂. alloc1 ! (λ l₃. alloc1 ! (λ l₄. alloc1 ! (λ l₅. alloc1 ! (λ l₆. alloc1 ! (λ l₇. alloc0 ! $ params1 ! $
@@ -170,7 +170,7 @@ module _ {M : Type 1} (𝓤 : URA M) (H : Heap 𝓤) (A : Atoms 𝓤) (W : Given
         -- [what the reader owns; the token; what s owns; room for _7; …; room for _4; …; _3; …; _2; …; _1; …; room for _0; …]
         peeks ! (Row (κ, tt)) (Is (Row (κ, tt))) (shows 𝓤 H A (Row (κ, tt))) r (u ∷ []) (λ is.
         land ! (from ! (stop !)) (init ! 7 refl (LL.lawful (T.the-type αᵉ) (T′.the-laws αᵉ) 𝓤 H A W .typed r _ is .0)) $
-        use2 W (raw (Take 𝓤 H A mem run .pre (to-take r u))) (goes-take ok room r u made) $
+        use2 W (raw (Take 𝓤 H A mem run .pre (to-take r u))) (goes-take ok long room r u made) $
         calls-at ! fm (Take 𝓤 H A mem run) known-take (to-take r u)
         (and-then ! (load ! (from ! (stop !)) (look ! 6 refl)) (and-then ! (load ! (from ! (stop !)) (look ! 10 refl)) (no-more !))) (λ u′.
         returned ! tt take.ended (κ, tt) (r, (w, tt)) (‵ (flft κ q) ⊛ ‵ ftrue) Row-taken (λ t. t ≡ takenFrom r w) u′ (λ t taken.
@@ -200,7 +200,7 @@ module _ {M : Type 1} (𝓤 : URA M) (H : Heap 𝓤) (A : Atoms 𝓤) (W : Given
       (λ κs qs bounds a g are. needs 𝓤 _ _
       (λ ok. walk 𝓤 H A W mem run (κs .0) (qs .0) (a .0) (a .1 .0) (a .1 .1 .0) (cursor-fits _ _ (are .1 .0)) (are .1 .1 .0 .1) C Λ fm
       known-reader-at known-take
-      (are .0) (ok .0) (ok .1)))
+      (are .0) (ok .0) (ok .1) (ok .2)))
 
 next-field-meets : {M : Type 1} (𝓤 : URA M) (H : Heap 𝓤) (A : Atoms 𝓤) (W : Given 𝓤 H A) (mem : Memory → SProp 𝓤) (run : Routine → Fun 𝓤) (𝓣 : Tables 𝓤 H)
     → Triple 𝓤 (𝓣 .C #bits·reader·reader-at) (ReaderAt 𝓤 H A mem run) → Triple 𝓤 (𝓣 .C #bits·reader·take) (Take 𝓤 H A mem run)

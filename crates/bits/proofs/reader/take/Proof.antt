@@ -5,7 +5,7 @@
 -- the reader inside the result.
 -- Assumes nothing.
 use mathlib.Core.Path.{_≡_, refl, ap}
-use Prim.Native.Nat.{ℕ, _+_, _<_, _≤_, _^_}
+use Prim.Native.Nat.{ℕ, _<_, _≤_, _^_}
 use mathlib.Core.List.{[], _∷_}
 use lib.Dec.{T as Holds}
 use lib.ListN.{length}
@@ -115,17 +115,17 @@ module _ {M : Type 1} (𝓤 : URA M) (H : Heap 𝓤) (A : Atoms 𝓤) (W : Given
   abbrev to-digits : Digits 𝓤 H A mem run .Ghost
   to-digits = (((κ, tt), (q, tt), tt, (d .bytes, (d .cursor .at, (w, tt))), (v ∷ [], (vint w64 (d .cursor .at) ∷ [], (vint w64 w ∷ [], tt)))), tt)
 
-  asked : w ≤ 57 → d .cursor .at + w < 2 ^ 64
+  asked : w ≤ 57 → 8 ≤ length (now (d .bytes))
       → ent 𝓤 (onEntry 𝓤 H A digits.signature (κ, tt) (q, tt) (to-digits .0 .3) (to-digits .0 .4)) (Digits 𝓤 H A mem run .pre to-digits)
-  asked ok room =
+  asked ok long =
       qed W ((‵ (flft κ q) ⊛ ‵ ftrue) ∷ ‵ (owns (ShrSlice (named 0) κ u8 ∷ usize ∷ usize ∷ []) (to-digits .0 .3) (to-digits .0 .4)) ∷ []) ∵
-      says ! (ok, room) $ frame ! $ done !
+      says ! (ok, long) $ frame ! $ done !
 
   -- what the struct owns gives what `digits_at` asks, and is kept twice
-  apart : Fits (d .cursor) → w ≤ 57 → d .cursor .at + w < 2 ^ 64
+  apart : Fits (d .cursor) → w ≤ 57 → 8 ≤ length (now (d .bytes))
       → ent 𝓤 (onEntry 𝓤 H A take.signature (κ, tt) (q, tt) (d, (w, tt)) vals)
       (sep 𝓤 (Digits 𝓤 H A mem run .pre to-digits) (sep 𝓤 (sem 𝓤 H A Own) (sem 𝓤 H A Own)))
-  apart fits ok room =
+  apart fits ok long =
       let twice = LL.copy (Kind (κ, tt)) (T′.the-copy (namedLft 1 0 tt (κ, tt))) 𝓤 H A W .twice d (mach ∷ []) in
       qed W ((‵ (flft κ q) ⊛ ‵ ftrue) ∷ ‵ (owns (Row (κ, tt) ∷ usize ∷ []) (d, (w, tt)) vals) ∷ []) ∵
       move ! (1 ∷ []) $ fsplit ! $ move ! (1 ∷ []) $ drop ! $ use1 W (‵ Own ⊛ ‵ Own) twice $ split ! $ use1 W (‵ Own ⊛ ‵ Own) twice $ move ! (1 ∷ []) $
@@ -133,7 +133,7 @@ module _ {M : Type 1} (𝓤 : URA M) (H : Heap 𝓤) (A : Atoms 𝓤) (W : Given
       (own-open 𝓤 H A W (Kind (κ, tt)) (kind-laws (κ, tt)) (d .bytes, (d .cursor, tt)) mach) $ learn ! (λ _. fsplit ! $
       -- [what the slice owns; what the cursor owns; what the struct owns, twice; the token]
       move ! (1 ∷ []) $ drop ! $ nothing ! $ number ! w w-fits $ fjoin ! $ number ! (d .cursor .at) (fits .at) $ fjoin ! $ move ! (1 ∷ 0 ∷ []) $ fjoin ! $
-      move ! (2 ∷ 0 ∷ []) $ use2 W (raw (Digits 𝓤 H A mem run .pre to-digits)) (asked ok room) $ frame ! $ done !)
+      move ! (2 ∷ 0 ∷ []) $ use2 W (raw (Digits 𝓤 H A mem run .pre to-digits)) (asked ok long) $ frame ! $ done !)
 
   -- the call of `move_on`
   abbrev to-move-on : MoveOn 𝓤 H A mem run .Ghost
@@ -159,9 +159,9 @@ module _ {M : Type 1} (𝓤 : URA M) (H : Heap 𝓤) (A : Atoms 𝓤) (W : Given
 
   module _ (C : Calls 𝓤 H) (Λ : Loops 𝓤 H) (fm : FmC 𝓤 H (W .laws) C) (known-digits : Triple 𝓤 (C #bits·digits-at) (Digits 𝓤 H A mem run))
       (known-move-on : Triple 𝓤 (C #bits·reader·move-on) (MoveOn 𝓤 H A mem run)) where
-    walk : Holds (hasTy (T′.mir (named 0)) mach) × WT mach → Fits (d .cursor) → w ≤ 57 → Room (d .cursor) w
+    walk : Holds (hasTy (T′.mir (named 0)) mach) × WT mach → Fits (d .cursor) → w ≤ 57 → 8 ≤ length (now (d .bytes)) → Room (d .cursor) w
         → ent 𝓤 (onEntry 𝓤 H A take.signature (κ, tt) (q, tt) (d, (w, tt)) vals) (WpFn 𝓤 H C Λ code.function (mach ∷ vint w64 w ∷ []) Post)
-    walk wt fits ok room =
+    walk wt fits ok long room =
         qed W (raw (onEntry 𝓤 H A take.signature (κ, tt) (q, tt) (d, (w, tt)) vals) ∷ []) ∵ enter ! C Λ code.function (mach ∷ vint w64 w ∷ []) _ $
         alloc1 ! (λ l₀. alloc1 ! (λ l₁. alloc1 ! (λ l₂. alloc1 ! (λ l₃. alloc1 ! (λ l₄. alloc1 ! (λ l₅. alloc1 ! (λ l₆. alloc1 ! (λ l₇. alloc0 ! $
         params1 ! $ pass1 ! (init ! 12 refl wt) $ pass1 ! (init ! 10 refl (tt, record { fits = w-fits })) $ pass0 ! $
@@ -169,7 +169,7 @@ module _ {M : Type 1} (𝓤 : URA M) (H : Heap 𝓤) (A : Atoms 𝓤) (W : Given
         assigns ! (of-opd ! (load ! (from ! (fld ! refl (stop !))) (look-in ! 12 (sub ! 0 refl (whole !))))) (from ! (stop !)) (init ! 8 refl (tt, wt .1 .0)) $
         assigns ! (of-opd ! (load ! (from ! (fld ! refl (stop !))) (look-in ! 12 (sub ! 1 refl (whole !))))) (from ! (stop !))
         (init ! 6 refl (tt, wt .1 .1 .0)) $
-        move ! (16 ∷ []) $ use1 W (raw (Digits 𝓤 H A mem run .pre to-digits) ⊛ (‵ Own ⊛ ‵ Own)) (apart fits ok (room .at)) $ split ! $
+        move ! (16 ∷ []) $ use1 W (raw (Digits 𝓤 H A mem run .pre to-digits) ⊛ (‵ Own ⊛ ‵ Own)) (apart fits ok long) $ split ! $
         calls-at ! fm (Digits 𝓤 H A mem run) known-digits to-digits
         (and-then ! (load ! (from ! (stop !)) (look ! 10 refl))
         (and-then ! (load ! (from ! (fld ! refl (stop !))) (look-in ! 8 (sub ! 0 refl (whole !))))
@@ -204,7 +204,7 @@ module _ {M : Type 1} (𝓤 : URA M) (H : Heap 𝓤) (A : Atoms 𝓤) (W : Given
       (λ κs. (LL.vals (Kind κs) (kind-laws κs), (uint-vals w64, tt))) (λ κs. (tells κs, (uint-tells w64, tt)))
       (λ κs qs bounds a g are. needs 𝓤 _ _
       (λ ok. walk 𝓤 H A W mem run (κs .0) (qs .0) (a .0) (a .1 .0) (are .1 .0 .1) C Λ fm known-digits known-move-on (typed κs 𝓤 H A W (a .0) _ (are .0))
-      (cursor-fits _ _ (are .0 .1 .1 .1 .0)) (ok .0) (ok .1)))
+      (cursor-fits _ _ (are .0 .1 .1 .1 .0)) (ok .0) (ok .1) (ok .2)))
 
 take-meets : {M : Type 1} (𝓤 : URA M) (H : Heap 𝓤) (A : Atoms 𝓤) (W : Given 𝓤 H A) (mem : Memory → SProp 𝓤) (run : Routine → Fun 𝓤) (𝓣 : Tables 𝓤 H)
     → Triple 𝓤 (𝓣 .C #bits·digits-at) (Digits 𝓤 H A mem run) → Triple 𝓤 (𝓣 .C #bits·reader·move-on) (MoveOn 𝓤 H A mem run)

@@ -48,7 +48,7 @@ stands c = c .cursor-at .ensures
 line-of : (c : tie.After-line-at) → let s = line-start c in
     let last = c .line-at .last .1 .1 .1 .1 in
     Line (s .args .shape .words) (s .args .shape .width) (s .args .file .now) (s .args .clock .cycle) (last .0) (last .1 .0) (last .1 .1 .0)
-line-of c = c .line-at .ensures .2 (line-start c .args .clock .cycle) (ap (λ (x : Cursor). x .at) (stands (c .before .before .before .before .before)))
+line-of c = c .line-at .ensures .line (line-start c .args .clock .cycle) (ap (λ (x : Cursor). x .at) (stands (c .before .before .before .before .before)))
 
 -- what each test says
 reads-told : (c : tie.After-any-from) {b : Bool} → c .any-from .result ≡ b → own readStrays (line-start (found c)) ≡ b

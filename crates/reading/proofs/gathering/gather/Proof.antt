@@ -65,7 +65,7 @@ line-read : (c : tie.After-line-at Inv-loop μ-loop)
     Line (s .args .shape .words) (s .args .shape .width) (s .args .file .now) (a .loop .t) (last .0) (last .1 .0) (last .1 .1 .0)
 line-read c =
     let a = turn c .before in
-    c .line-at .ensures .2 (a .loop .t) (ap (λ (x : Cursor). x .at) (a .loop .inv .0 .1) ∙ behind-stands _ _ (a .loop .t))
+    c .line-at .ensures .line (a .loop .t) (ap (λ (x : Cursor). x .at) (a .loop .inv .0 .1) ∙ behind-stands _ _ (a .loop .t))
 
 -- what the tests of line t say, once their answer is known
 gathers : (c : tie.After-gather-line Inv-loop μ-loop) (g : Tested)
@@ -169,7 +169,7 @@ loop-again c =
     let w = s .args .shape .width in
     let held = a .loop .inv in
     let kept = r .line-at .kept .1 .1 .1 in
-    let further = r .line-at .ensures .0 ∙ ap (λ (x : Cursor). onward x (lineBits n w)) (held .0 .1) ∙ behind-more n w (a .loop .t) in (
+    let further = r .line-at .ensures .moved ∙ ap (λ (x : Cursor). onward x (lineBits n w)) (held .0 .1) ∙ behind-more n w (a .loop .t) in (
       (gathering-more (held .0 .0) (line-left (test d)) (gathers d _ (c .enum-told .given .1)), further),
       kept .0 ∙ held .1,
       kept .1 .0 ∙ held .2,

@@ -28,7 +28,7 @@ loop-holds c =
     let s = c .before .before in (
       omega arith,
       sym (onward-none (s .args .cursor)) ∙ ap (onward (s .args .cursor)) (sym (zero-mul (s .args .address))),
-      record { long = s .pre .3; filled = λ i l. absurd (omega arith) },
+      record { long = s .pre .4; filled = λ i l. absurd (omega arith) },
     )
 
 next-field-requires : tie.Need-next-field-requires Inv-loop μ-loop
@@ -37,7 +37,8 @@ next-field-requires c κs =
     let b = c .before .loop .b in
     let left = mul-le-mul-right {m = suc b} {n = s .args .count} (s .args .address) (omega arith) in
     let turn = suc-mul b (s .args .address) in
-    (omega (arith, s .pre .0), room-behind (s .args .cursor) (b * s .args .address) (c .before .loop .inv .1) (s .pre .2) (omega (arith, left, turn)))
+    let here = b * s .args .address in
+    (omega (arith, s .pre .1), s .pre .0, room-behind (s .args .cursor) here (c .before .loop .inv .1) (s .pre .3) (omega (arith, left, turn)))
 
 -- what turn b takes
 taken : (c : tie.After-next-field Inv-loop μ-loop) → let s = c .before .before .before .before .before in
@@ -52,13 +53,13 @@ taken c =
 cast-found : tie.Need-cast-found Inv-loop μ-loop
 cast-found c =
     let s = c .before .before .before .before .before .before in
-    rw (taken (c .before) .0) (record { fits = lt-of-lt-of-le (field-lt _ _ (s .args .address)) (pow-mono {j = 16} (s .pre .0)) })
+    rw (taken (c .before) .0) (record { fits = lt-of-lt-of-le (field-lt _ _ (s .args .address)) (pow-mono {j = 16} (s .pre .1)) })
 
 mul-found : tie.Need-mul-found Inv-loop μ-loop
 mul-found c = search needs
 
 slice-write-found : tie.Need-slice-write-found Inv-loop μ-loop
-slice-write-found c = omega (arith, c .before .before .before .loop .inv .2 .long, c .before .before .before .before .before .before .pre .1)
+slice-write-found c = omega (arith, c .before .before .before .loop .inv .2 .long, c .before .before .before .before .before .before .pre .2)
 
 add-b : tie.Need-add-b Inv-loop μ-loop
 add-b c = search needs
@@ -75,7 +76,7 @@ loop-again c =
     (omega arith, taken d .1 ∙ ap (onward (s .args .cursor)) turn, filling-more _ (l .inv .2) (omega arith) (taken d .0))
 
 same-length : tie.Need-same-length Inv-loop μ-loop
-same-length c = c .before .loop .inv .2 .long ∙ sym (c .before .before .before .before .pre .3)
+same-length c = c .before .loop .inv .2 .long ∙ sym (c .before .before .before .before .pre .4)
 
 returns : tie.Need-returns Inv-loop μ-loop
 returns c =

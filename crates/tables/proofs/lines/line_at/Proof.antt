@@ -1,57 +1,17 @@
--- `lines::line_at` meets its contract: the cursor is carried on from the read addresses to the switch bits and to the write addresses, so each
--- part is read from where the one before it ended.
-use Prim.Native.Nat.{ℕ, _+_, _*_}
-use mathlib.Core.Path.{ap, _∙_}
-use native.Mathlib.Omega.{arith}
+-- `lines::line_at` meets its contract: a file of fewer than eight bytes is read with zeros behind it, which have no part in what is read.
 use borrow.Author.Needs.{needs}
-use Rattle.bits.specs.Reading.{onward}
-use Rattle.tables.proofs.Cursors.{room-less, room-behind, carried-on}
-use Rattle.tables.proofs.Opens.{shape-same}
-use Rattle.tables.proofs.Passes.{Fitting, line-fits, line-sized, switches-read, line-read}
+use Rattle.tables.proofs.Passes.{taken-zeros}
 use Rattle.tables.proofs.lines.line_at.Statement.{statement}
 use Rattle.tables.proofs.lines.line_at.Tie as tie
 
--- ---- the places
+with-zeros-requires : tie.Need-with-zeros-requires
+with-zeros-requires c κs = search needs
 
-abbrev start : tie.After-addresses → tie.Start
-start c = c .before .before .before .before .before .before .before
+slice-aggregate-line-from : tie.Need-slice-aggregate-line-from
+slice-aggregate-line-from c = search needs
 
-abbrev read : tie.After-sources → tie.After-addresses
-read c = c .before .before .before .before .before
-
-abbrev carried : tie.After-addresses2 → tie.After-sources
-carried c = c .before .before .before .before .before .before
-
--- ---- the facts
-
--- the bits of a row of addresses
-abbrev row : tie.Start → ℕ
-row s = s .args .shape .width * s .args .shape .addressing
-
-fits-known : (s : tie.Start) → Fitting (s .args .shape)
-fits-known s = line-fits (s .pre .0 .0 .dims) (shape-same (s .pre .0 .0))
-
-addresses-requires : tie.Need-addresses-requires
-addresses-requires c κs =
-    let s = c .before .before .before .before .before .before in
-    let f = fits-known s in
-    (f .addressing, f .width, room-less (s .pre .0 .1) (omega (arith, f .all)), s .pre .1 .1)
-
-sources-requires : tie.Need-sources-requires
-sources-requires c κs =
-    let r = c .before .before .before .before in
-    let s = start r in
-    let f = fits-known s in
-    let room = room-behind (s .args .cursor) (row s) (r .addresses .ensures .0) {m = s .args .shape .switches} (s .pre .0 .1) (omega (arith, f .all)) in
-    (line-sized (s .pre .0 .0 .dims) (shape-same (s .pre .0 .0)), (f .lines, f .switches, room, s .pre .1 .0, s .pre .1 .2))
-
-addresses-requires-2 : tie.Need-addresses-requires-2
-addresses-requires-2 c κs =
-    let d = c .before .before .before .before .before in
-    let s = start (read d) in
-    let f = fits-known s in
-    let there = carried-on (s .args .cursor) (row s) (read d .addresses .ensures .0) (s .args .shape .switches) (d .sources .ensures .0) in
-    (f .addressing, f .width, room-behind (s .args .cursor) (row s + s .args .shape .switches) there (s .pre .0 .1) (omega (arith, f .all)), s .pre .1 .3)
+line-from-requires : tie.Need-line-from-requires
+line-from-requires c κs = search needs
 
 same-length : tie.Need-same-length
 same-length c = search needs
@@ -67,29 +27,42 @@ same-length-4 c = search needs
 
 returns : tie.Need-returns
 returns c =
-    let written = c .before .before in
-    let d = carried written in
-    let r = read d in
-    let s = start r in
-    let file = s .args .file .now in
-    let same = shape-same (s .pre .0 .0) in
-    let there = carried-on (s .args .cursor) (row s) (r .addresses .ensures .0) (s .args .shape .switches) (d .sources .ensures .0) in
-    let end = carried-on (s .args .cursor) (row s + s .args .shape .switches) there (row s) (written .addresses2 .ensures .0) in (
-      end ∙ ap (onward (s .args .cursor)) (fits-known s .all),
-      switches-read _ _ file (s .args .cursor) same (r .addresses .ensures .0) (d .sources .ensures .1),
-      λ t stands. line-read _ _ file (s .args .cursor) same (r .addresses .ensures .0) t (d .sources .ensures .0) stands (r .addresses .ensures .1)
-          (d .sources .ensures .2) (written .addresses2 .ensures .1),
-    )
+    let read = c .before .before .before .before .before .before .before .before in
+    taken-zeros (read .before .before .before .before .before .before .with-zeros .ensures) (read .line-from .ensures)
+
+line-from-requires-2 : tie.Need-line-from-requires-2
+line-from-requires-2 c κs = search needs
+
+same-length-5 : tie.Need-same-length-5
+same-length-5 c = search needs
+
+same-length-6 : tie.Need-same-length-6
+same-length-6 c = search needs
+
+same-length-7 : tie.Need-same-length-7
+same-length-7 c = search needs
+
+same-length-8 : tie.Need-same-length-8
+same-length-8 c = search needs
+
+returns-2 : tie.Need-returns-2
+returns-2 c = search needs
 
 pub line-at-spec : {M : Type 1} → statement M
 line-at-spec =
     tie.close
     (tie.spec
-    addresses-requires
-    sources-requires
-    addresses-requires-2
+    with-zeros-requires
+    slice-aggregate-line-from
+    line-from-requires
     same-length
     same-length-2
     same-length-3
     same-length-4
-    returns)
+    returns
+    line-from-requires-2
+    same-length-5
+    same-length-6
+    same-length-7
+    same-length-8
+    returns-2)

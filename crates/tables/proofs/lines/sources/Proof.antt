@@ -40,7 +40,7 @@ returns c =
     let s = start d in
     let none : s .args .count ≡ 0 = c .if1 .taken in (
       sym (onward-none (s .args .cursor)) ∙ ap (onward (s .args .cursor)) (sym none),
-      record { long = s .pre .1 .3; each = λ i l. absurd (omega arith) },
+      record { long = s .pre .1 .4; each = λ i l. absurd (omega arith) },
       λ depth S. sources-straight depth _ S none (d .number .ensures),
     )
 
@@ -84,7 +84,7 @@ returns-2 c =
     let standing = numbered d .number .last .0 in (
       d .switches .ensures .0,
       d .switches .ensures .1,
-      λ depth S. sources-routed standing S (s .pre .1 .0) (d .switches .ensures .1) (numbered d .number .ensures)
+      λ depth S. sources-routed standing S (s .pre .1 .1) (d .switches .ensures .1) (numbered d .number .ensures)
           (routed .route .ensures depth (fronts-sized depth setting standing S (standing-long d) (setting-long d))),
     )
 

@@ -37,22 +37,22 @@ last c = c .before .before .before
 loop-holds : tie.Need-loop-holds Inv-loop μ-loop
 loop-holds c =
     let s = c .before .before in
-    (omega arith, sym (onward-none (s .args .cursor)), record { long = s .pre .2; filled = λ i l. absurd (omega arith) })
+    (omega arith, sym (onward-none (s .args .cursor)), record { long = s .pre .3; filled = λ i l. absurd (omega arith) })
 
 add-loop : tie.Need-add-loop Inv-loop μ-loop
-add-loop c = omega (arith, c .loop .inv .0, start c .pre .0)
+add-loop c = omega (arith, c .loop .inv .0, start c .pre .1)
 
 next-field-requires : tie.Need-next-field-requires Inv-loop μ-loop
 next-field-requires c κs =
     let a = c .before in
-    (omega arith, room-behind (start a .args .cursor) (a .loop .i) (a .loop .inv .1) (start a .pre .1) (omega (arith, c .loop-test .taken)))
+    (omega arith, start a .pre .0, room-behind (start a .args .cursor) (a .loop .i) (a .loop .inv .1) (start a .pre .2) (omega (arith, c .loop-test .taken)))
 
 spread-requires : tie.Need-spread-requires Inv-loop μ-loop
 spread-requires c κs =
     let d = c .before .before in
     let l = d .before .loop in
     let s = start (d .before) in
-    (omega arith, omega (arith, l .inv .2 .long, s .pre .0, d .loop-test .taken), omega (arith, l .inv .0, s .pre .0))
+    (omega arith, omega (arith, l .inv .2 .long, s .pre .1, d .loop-test .taken), omega (arith, l .inv .0, s .pre .1))
 
 add-i : tie.Need-add-i Inv-loop μ-loop
 add-i c = search needs
@@ -78,20 +78,21 @@ sub-rest c = c .before .loop .inv .0
 next-field-requires-2 : tie.Need-next-field-requires-2 Inv-loop μ-loop
 next-field-requires-2 c κs =
     let a = c .before in
-    (omega (arith, c .loop-test .left), room-behind (start a .args .cursor) (a .loop .i) (a .loop .inv .1) (start a .pre .1) (omega (arith, a .loop .inv .0)))
+    let s = start a in
+    (omega (arith, c .loop-test .left), s .pre .0, room-behind (s .args .cursor) (a .loop .i) (a .loop .inv .1) (s .pre .2) (omega (arith, a .loop .inv .0)))
 
 spread-requires-2 : tie.Need-spread-requires-2 Inv-loop μ-loop
 spread-requires-2 c κs =
     let d = c .before .before in
     let l = d .before .loop in
     let s = start (d .before) in
-    (omega (arith, d .loop-test .left), omega (arith, l .inv .2 .long, s .pre .0, l .inv .0), omega (arith, l .inv .0, s .pre .0))
+    (omega (arith, d .loop-test .left), omega (arith, l .inv .2 .long, s .pre .1, l .inv .0), omega (arith, l .inv .0, s .pre .1))
 
 same-length : tie.Need-same-length Inv-loop μ-loop
 same-length c =
     let p = c .before .before .before in
     let a = last p .before in
-    p .spread2 .ensures .long ∙ a .loop .inv .2 .long ∙ sym (start a .pre .2)
+    p .spread2 .ensures .long ∙ a .loop .inv .2 .long ∙ sym (start a .pre .3)
 
 returns : tie.Need-returns Inv-loop μ-loop
 returns c =

@@ -6,7 +6,6 @@ use native.Mathlib.Nat.{div-one}
 use borrow.Author.Needs.{needs}
 use Rattle.laws.proofs.Choices.{ifLt-yes}
 use Rattle.bits.specs.Bits.{field}
-use Rattle.bits.specs.declared.reader.Field.{Field}
 use Rattle.bits.proofs.Fields.{field-front, field-inside}
 use Rattle.tables.specs.Terms.{Dims, limitsOf}
 use Rattle.tables.specs.Header.{headerWords, headerWidth, headerZeros}
@@ -18,30 +17,30 @@ use Rattle.tables.proofs.opening.open.Statement.{statement}
 use Rattle.tables.proofs.opening.open.Tie as tie
 
 -- the header that was read, from the last test
-abbrev header : tie.Then3 → tie.After-next-field
+abbrev header : tie.Then3 → tie.After-header-of
 header c = c .before .before .before .before .before
 
-abbrev start : tie.After-next-field → tie.Start
+abbrev start : tie.After-header-of → tie.Start
 start c = c .before .before .before
 
 -- its three numbers are the front, the middle and the end of one field
-taken : (c : tie.After-next-field) → c .next-field .result .value ≡ field (start c .args .file .now) 0 24
-taken c = ap (λ (x : Field). x .value) (c .next-field .ensures)
+taken : (c : tie.After-header-of) → c .header-of .result ≡ field (start c .args .file .now) 0 24
+taken c = c .header-of .ensures
 
-words-read : (c : tie.After-next-field) → c .next-field .result .value / 2 ^ 11 ≡ headerWords (start c .args .file .now)
+words-read : (c : tie.After-header-of) → c .header-of .result / 2 ^ 11 ≡ headerWords (start c .args .file .now)
 unfolding headerWords
 words-read c = ap (λ (x : ℕ). x / 2 ^ 11) (taken c) ∙ field-front (start c .args .file .now) 0 13 11
 
-width-read : (c : tie.After-next-field) → c .next-field .result .value / 2 ^ 4 % 2 ^ 7 ≡ headerWidth (start c .args .file .now)
+width-read : (c : tie.After-header-of) → c .header-of .result / 2 ^ 4 % 2 ^ 7 ≡ headerWidth (start c .args .file .now)
 unfolding headerWidth
 width-read c = ap (λ (x : ℕ). x / 2 ^ 4 % 2 ^ 7) (taken c) ∙ sym (field-inside (start c .args .file .now) 0 13 7 4)
 
-zeros-read : (c : tie.After-next-field) → c .next-field .result .value % 2 ^ 4 ≡ headerZeros (start c .args .file .now)
+zeros-read : (c : tie.After-header-of) → c .header-of .result % 2 ^ 4 ≡ headerZeros (start c .args .file .now)
 unfolding headerZeros
 zeros-read c = ap (λ (x : ℕ). x % 2 ^ 4) (taken c) ∙ sym (rw div-one at (field-inside (start c .args .file .now) 0 20 4 0))
 
 -- the limits are kept
-kept : (c : tie.After-enum-told2) → let x = c .before .before .before .before .next-field .result .value in
+kept : (c : tie.After-enum-told2) → let x = c .before .before .before .before .header-of .result in
     limitsOf (x / 2 ^ 11) (x / 2 ^ 4 % 2 ^ 7) ≡ Kept
 kept c = sym (c .before .before .test-limits .ensures) ∙ c .enum-told2 .given .1
 
@@ -49,8 +48,8 @@ returns : tie.Need-returns
 unfolding openOf
 returns c = ifLt-yes _ _ _ _ _ (c .if1 .taken) refl
 
-next-field-requires : tie.Need-next-field-requires
-next-field-requires c κs = search needs
+header-of-requires : tie.Need-header-of-requires
+header-of-requires c κs = search needs
 
 returns-2 : tie.Need-returns-2
 returns-2 c =
@@ -72,7 +71,7 @@ rem-if3 c = limits-kept _ _ (kept c) .wide
 -- the dimensions of a set, where w divides n too
 dims : (c : tie.Then3)
     → let d = header c in
-    Dims (d .next-field .result .value / 2 ^ 11) (d .next-field .result .value / 2 ^ 4 % 2 ^ 7)
+    Dims (d .header-of .result / 2 ^ 11) (d .header-of .result / 2 ^ 4 % 2 ^ 7)
 dims c = limited-dims (limits-kept _ _ (kept (c .before))) (c .if3 .taken)
 
 shape-of-requires : tie.Need-shape-of-requires
@@ -106,7 +105,7 @@ open-spec =
     tie.close
     (tie.spec
     returns
-    next-field-requires
+    header-of-requires
     returns-2
     test-limits-requires
     enum-told
