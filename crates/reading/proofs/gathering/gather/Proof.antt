@@ -34,8 +34,11 @@ start c = c .before .before .before .before .before
 abbrev turn : tie.After-line-at Inv-loop μ-loop → tie.In-loop Inv-loop μ-loop
 turn c = c .before .before .before .before .before
 
+abbrev lent : tie.After-writes3 Inv-loop μ-loop → tie.After-line-at Inv-loop μ-loop
+lent c = c .before .before .before .before .before .before .before
+
 abbrev read : tie.After-gather-line Inv-loop μ-loop → tie.After-line-at Inv-loop μ-loop
-read c = c .before .before .before .before .before .before .before .before .before .before
+read c = lent (c .before .before .before)
 
 abbrev test : tie.After-gather-line Inv-loop μ-loop → tie.In-loop Inv-loop μ-loop
 test c = turn (read c)
@@ -123,7 +126,7 @@ slice-aggregate-gather-line-3 c = sym (line-read (c .before .before .before .bef
 
 gather-line-requires : tie.Need-gather-line-requires Inv-loop μ-loop
 gather-line-requires c κs =
-    let d = c .before .before .before .before .before .before .before .before .before in
+    let d = lent (c .before .before) in
     let a = turn d .before in
     let s = start a in
     (s .pre .0, (s .args .file .now, line-read d, a .loop .inv .0 .0 .gathered))
