@@ -152,6 +152,14 @@ unfolding field
 field-past xs at zero h = refl
 field-past xs at (suc w) h = omega (arith, field-past xs at w h, bit-past xs (at + w) (omega arith))
 
+-- Eight bytes of which the list has fewer: its own bits, with zeros behind them.
+pub field-short : (xs : List ℕ) → length xs < 8 → field xs 0 64 ≡ field xs 0 (8 * length xs) * 2 ^ (64 - 8 * length xs)
+field-short xs short =
+    let own = 8 * length xs in
+    let all : own + (64 - own) ≡ 64 = omega arith in
+    let none : field xs (0 + own) (64 - own) ≡ 0 = field-past xs (0 + own) (64 - own) (omega arith) in
+    rw all at (field-append xs 0 own (64 - own)) ∙ rw none (omega arith)
+
 -- The first bits of a field.
 pub field-front : (xs : List ℕ) (at w r : ℕ) → field xs at (w + r) / 2 ^ r ≡ field xs at w
 field-front xs at w r = rw (field-append xs at w r) (high (field xs at w) r (field-lt xs (at + w) r))

@@ -74,15 +74,32 @@ fn digits_at(bytes: &[u8], at: usize, width: usize) -> u64
     0
 }
 
-// The bytes of a short slice, with zeros behind them, so that fields can be taken from them. Only our own crates call it, with fewer than eight.
+// The bytes of a short slice with zeros behind them, eight bytes in all, as one number.
+fn short_number(bytes: &[u8]) -> u64
+    requires { ⌜ length (now bytes) < 8 ⌝ }
+    ensures { λ r. ⌜ r ≡ field (now (bytes .entry)) 0 64 ⌝ }
+{
+    let mut number: u64 = 0;
+    let mut i = 0;
+    while i < bytes.len() {
+        number = number * 256 + bytes[i] as u64;
+        i += 1;
+    }
+    // They are two shifts, as none may be by 64.
+    (number << 8) << (56 - 8 * bytes.len())
+}
+
+// The bytes of a short slice with zeros behind them, so that fields can be taken from them. They come from one number, which is compiled to one
+// store, so that a load of all eight does not wait for stores of single bytes. Only our own crates call it, with fewer than eight bytes.
 pub fn with_zeros(bytes: &[u8]) -> [u8; 8]
     requires { ⌜ length (now bytes) < 8 ⌝ }
     ensures { λ r. ⌜ WithZeros (now (bytes .entry)) r ⌝ }
 {
+    let number = short_number(bytes);
     let mut longer = [0u8; 8];
     let mut i = 0;
-    while i < bytes.len() {
-        longer[i] = bytes[i];
+    while i < 8 {
+        longer[i] = ((number >> (56 - 8 * i)) % 256) as u8;
         i += 1;
     }
     longer

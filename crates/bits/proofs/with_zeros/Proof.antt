@@ -1,49 +1,53 @@
--- `bits::with_zeros` meets its contract: turn i puts byte i, and behind the bytes that were put there are zeros still.
+-- `bits::with_zeros` meets its contract: turn i puts the byte that stands in the number's place i, which is byte i of the slice (`field-inside`).
 -- Assumes nothing.
-use Prim.Native.Nat.{ℕ, _+_, _-_, _<_, _≤_}
-use mathlib.Core.Path.{_≡_, refl, sym, _∙_}
+use Prim.Native.Nat.{ℕ, _+_, _-_, _*_, _/_, _%_, _^_, _<_, _≤_}
 use mathlib.Core.List.{List}
-use native.Mathlib.Decide.{ℕ-discrete, decLt}
+use mathlib.Core.Path.{_≡_, refl, sym, ap, _∙_}
+use native.Mathlib.Decide.{decLt}
+use native.Mathlib.Nat.{mod-eq-of-lt, zero-add}
 use native.Mathlib.Omega.{arith}
 use borrow.Author.Needs.{needs}
-use lib.ListN.{length, getD, set, length-set, replicate, getD-replicate, List·getD-eq-default}
-use lib.Seq.{getD-set-same, getD-set-other}
+use denote.Ref.{now}
+use lib.ListN.{length, getD, List·getD-eq-default}
+use Rattle.laws.proofs.Tabulates.{Filling, filling-more}
+use Rattle.bits.specs.Bits.{Bytes, field}
+use Rattle.bits.proofs.Fields.{field-byte, field-inside}
 use Rattle.bits.proofs.with_zeros.Statement.{statement}
 use Rattle.bits.proofs.with_zeros.Tie as tie
 
--- the first i bytes are put
-record Copied (bytes : List ℕ) (i : ℕ) (longer : List ℕ) : Type 0 where
-  long : length longer ≡ 8
-  front : (j : ℕ) → j < i → getD longer j 0 ≡ getD bytes j 0
-  behind : (j : ℕ) → i ≤ j → getD longer j 0 ≡ 0
+-- place i of a number of eight bytes
+abbrev placed : ℕ → ℕ → ℕ
+placed number i = number / 2 ^ (56 - 8 * i) % 256
 
-none : (j : ℕ) → getD {A = ℕ} (replicate 8 0) j 0 ≡ 0
-none j = elim (decLt j 8) [
-  | yes l ↦ getD-replicate 8 j 0 0 l
-  | no l ↦ let past : 8 ≤ j = omega arith in List·getD-eq-default (replicate 8 0) 0 past
-]
-
-copied-more : {bytes longer : List ℕ} {i : ℕ} → Copied bytes i longer → i < 8 → Copied bytes (i + 1) (set longer i (getD bytes i 0))
-copied-more {bytes} {longer} {i} C l = record {
-  long = length-set longer i (getD bytes i 0) ∙ C .long;
-  front = λ j m. elim (ℕ-discrete j i) [
-    | yes e ↦ rw e (getD-set-same longer i (getD bytes i 0) 0 (omega (arith, C .long)))
-    | no ne ↦ getD-set-other longer i j (getD bytes i 0) 0 ne ∙ C .front j (omega arith)
-  ];
-  behind = λ j m. getD-set-other longer i j (getD bytes i 0) 0 (λ e. omega arith) ∙ C .behind j (omega arith);
-}
+placed-byte : {xs : List ℕ} → Bytes xs → (i : ℕ) → i < 8 → placed (field xs 0 64) i ≡ getD xs i 0
+placed-byte {xs} bx i l =
+    let all : 8 * i + 8 + (56 - 8 * i) ≡ 64 = omega arith in
+    sym (rw (all, zero-add) at (field-inside xs 0 (8 * i) 8 (56 - 8 * i))) ∙ field-byte xs i (8 * i) 8 (omega arith) (omega arith)
+    ∙ mod-eq-of-lt (bx .byte i)
 
 abbrev Inv-loop : tie.InvT-loop
-Inv-loop bytes longer₀ i₀ longer i = (i ≤ length bytes) × Copied bytes i longer
+Inv-loop bytes number longer₀ i₀ longer i = (i ≤ 8) × Filling (placed number) 8 i longer
 
 abbrev μ-loop : tie.MeasureT-loop
-μ-loop bytes longer₀ i₀ longer i = length bytes - i
+μ-loop bytes number longer₀ i₀ longer i = 8 - i
+
+short-number-requires : tie.Need-short-number-requires Inv-loop μ-loop
+short-number-requires c κs = search needs
 
 loop-holds : tie.Need-loop-holds Inv-loop μ-loop
-loop-holds c = (omega arith, record { long = refl; front = λ j l. absurd (omega arith); behind = λ j l. none j })
+loop-holds c = (omega arith, record { long = refl; filled = λ i l. absurd (omega arith) })
 
-shared-slice-read-longer : tie.Need-shared-slice-read-longer Inv-loop μ-loop
-shared-slice-read-longer c = search needs
+mul-longer : tie.Need-mul-longer Inv-loop μ-loop
+mul-longer c = search needs
+
+sub-longer : tie.Need-sub-longer Inv-loop μ-loop
+sub-longer c = search needs
+
+shr-longer : tie.Need-shr-longer Inv-loop μ-loop
+shr-longer c = search needs
+
+cast-longer : tie.Need-cast-longer Inv-loop μ-loop
+cast-longer c = search needs
 
 array-write-longer : tie.Need-array-write-longer Inv-loop μ-loop
 array-write-longer c = search needs
@@ -52,24 +56,29 @@ add-i : tie.Need-add-i Inv-loop μ-loop
 add-i c = search needs
 
 loop-less : tie.Need-loop-less Inv-loop μ-loop
-loop-less c = omega (arith, c .before .loop-test .taken)
+loop-less c = omega arith
 
 loop-again : tie.Need-loop-again Inv-loop μ-loop
-loop-again c =
-    let turn = c .before in
-    let l = turn .before .loop in
-    (omega (arith, turn .loop-test .taken), copied-more (l .inv .1) (omega (arith, turn .loop-test .taken, turn .before .before .pre)))
+loop-again c = (omega arith, filling-more _ (c .before .loop .inv .1) (omega arith) refl)
 
 returns : tie.Need-returns Inv-loop μ-loop
 returns c =
     let l = c .before .loop in
-    let bytes = c .before .before .args .bytes .now in
-    let all : l .i ≡ length bytes = omega (arith, l .inv .0, c .loop-test .left) in
+    let called = c .before .before in
+    let known = called .before in
+    let s = known .before in
+    let xs = now (s .args .bytes) in
+    let bytes : Bytes xs = record { byte = λ i. known .shared-slice-known .given i .fits } in
+    let all : l .i ≡ 8 = omega (arith, l .inv .0, c .loop-test .left) in
+    let F = l .inv .1 in
     record {
-      long = l .inv .1 .long;
-      same = λ i. elim (decLt i (length bytes)) [
-        | yes m ↦ l .inv .1 .front i (omega arith)
-        | no m ↦ l .inv .1 .behind i (omega arith) ∙ sym (List·getD-eq-default bytes 0 (omega arith))
+      long = F .long;
+      same = λ i. elim (decLt i 8) [
+        | yes m ↦ F .filled i (omega arith) ∙ ap (λ (x : ℕ). placed x i) (called .short-number .ensures) ∙ placed-byte bytes i m
+        | no m ↦
+            let past : length (l .longer) ≤ i = omega (arith, F .long) in
+            let past′ : length xs ≤ i = omega (arith, s .pre) in
+            List·getD-eq-default (l .longer) 0 past ∙ sym (List·getD-eq-default xs 0 past′)
       ];
     }
 
@@ -79,8 +88,12 @@ with-zeros-spec =
     (tie.spec
     Inv-loop
     μ-loop
+    short-number-requires
     loop-holds
-    shared-slice-read-longer
+    mul-longer
+    sub-longer
+    shr-longer
+    cast-longer
     array-write-longer
     add-i
     loop-less
