@@ -154,7 +154,7 @@ typedef struct {
     size_t value;
 } rughtena_answer;
 
-/* number 0: accepted, with place 0, n, w and the line bits that were read, c(2wa + B). Otherwise a refusal's number and place, and all three
+/* number 0: accepted, with place 0, n, w and the line bits that were taken, c(2wa + B). Otherwise a refusal's number and place, and all three
  * are 0. */
 typedef struct {
     size_t number;
@@ -183,7 +183,7 @@ rughtena_answer rughtena_generate(size_t n, size_t w, const uint16_t *images, si
 
 /* Reads a table set; file_len is exactly its length.
  * Lent: n images, written if the set is accepted; 2n scratch words, which are not written. n is the set's, so the padded one.
- * Each line bit of the file is read once: one pass tests the lines and gathers their images. The images are written only after the last line has
+ * Each line bit of the file is taken once: one pass tests the lines and gathers their images. The images are written only after the last line has
  * passed. Gives n, w and the number of line bits; the 24 bits of the header and the filling bits are not counted.
  * Refuses 6, 7, 6, 8, 12, then line by line 9, 10, 11. */
 rughtena_read_answer rughtena_read(const uint8_t *file, size_t file_len, uint16_t *images, size_t images_len,

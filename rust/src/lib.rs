@@ -51,7 +51,7 @@ pub struct Contents {
     pub words: usize,
     /// w, the words of a cycle.
     pub width: usize,
-    /// The line bits that were read, c(2wa + B). The 24 bits of the header and the filling bits are not counted.
+    /// The line bits that were taken, c(2wa + B). The 24 bits of the header and the filling bits are not counted.
     pub line_bits: usize,
 }
 
@@ -158,7 +158,7 @@ pub fn generate(
 /// Word i leaves at place `images[i]`.
 ///
 /// Needed are n words of `images`, of which the first n are written, and [`read_scratch(n)`](read_scratch) words of `scratch`, which are
-/// not written. A file in the form of a table set is accepted exactly when it performs a permutation. Each line bit is read once: one pass tests
+/// not written. A file in the form of a table set is accepted exactly when it performs a permutation. Each line bit is taken once: one pass tests
 /// the lines and gathers their images, which are written only after the last line has passed.
 ///
 /// # Errors

@@ -12,7 +12,7 @@ pub struct Answer {
     pub value: usize,
 }
 
-/// An accepted reading has number and place 0, n, w and the line bits that were read. A refused one has 0 for all three.
+/// An accepted reading has number and place 0, n, w and the line bits that were taken. A refused one has 0 for all three.
 #[repr(C)]
 #[derive(Clone, Copy, Debug, PartialEq, Eq)]
 pub struct ReadAnswer {
@@ -24,7 +24,7 @@ pub struct ReadAnswer {
     pub words: usize,
     /// w.
     pub width: usize,
-    /// The line bits that were read, c(2wa + B).
+    /// The line bits that were taken, c(2wa + B).
     pub line_bits: usize,
 }
 

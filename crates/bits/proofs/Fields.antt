@@ -14,7 +14,7 @@ use lib.ListN.{length, getD, set, take, length-set, List·getD-eq-default}
 use lib.Pow.{high, low, mod-pow-add, pow-add, pow-mono, pow-pos, shl-shr, shr-shr}
 use lib.Seq.{ext-getD, getD-take, getD-set-same, getD-set-other, set-out}
 use Rattle.bits.specs.Bits.{Bytes, digit, withDigits, bit, field, putBit, putField}
-use Rattle.bits.specs.Reading.{WithZeros}
+use Rattle.bits.specs.Reading.{mostField, WithZeros}
 use Rattle.bits.proofs.Digits.{digit-lt, digit-zero, digit-div, digit-high, digits-ext, digit-withDigits-inside, digit-withDigits-below, digit-withDigits-above, withDigits-lt}
 
 -- ---- bits
@@ -175,7 +175,7 @@ eight-shifted xs s k m all =
     rw all′ at (mod-pow-add (eight * 2 ^ k) m k) ∙ rw (shl-shr eight k, last, lowest) (omega arith)
 
 -- A field that begins in the eight bytes from byte s on is cut out of their number by shifts, where it ends in them or the list does.
-pub field-shifts : (xs : List ℕ) (s k w : ℕ) → k < 64 → w ≤ 57 → (k + w ≤ 64) ⊎ (length xs ≤ s + 8)
+pub field-shifts : (xs : List ℕ) (s k w : ℕ) → k < 64 → w ≤ mostField → (k + w ≤ 64) ⊎ (length xs ≤ s + 8)
     → field xs (8 * s) 64 * 2 ^ k % 2 ^ 64 / 2 / 2 ^ (63 - w) ≡ field xs (8 * s + k) w
 field-shifts xs s k w small narrow ends =
     shr-shr (field xs (8 * s) 64 * 2 ^ k % 2 ^ 64) 1 (63 - w)

@@ -11,6 +11,10 @@ use Rattle.bits.specs.declared.reader.Reader.{Reader}
 use Rattle.bits.specs.declared.reader.Taken.{Taken}
 use Rattle.bits.specs.declared.reader.Field.{Field}
 
+-- The most bits of a field that is read: those of eight bytes, less the at most 7 before it in its first byte.
+abbrev pub mostField : ℕ
+mostField = 57
+
 -- Both numbers of a cursor have room for w bits more: they have 64 binary digits.
 pub record Room (cursor : Cursor) (w : ℕ) : Type 0 where
   pub at : cursor .at + w < 2 ^ 64

@@ -5,7 +5,7 @@ ghost use mathlib.Core.Path.{_≡_};
 ghost use Prim.Native.Nat.{_+_, _*_, _^_, _<_, _≤_};
 ghost use lib.ListN.{length, getD, set};
 ghost use Rattle.bits.specs.Bits.{withDigits, field, putField};
-ghost use Rattle.bits.specs.Reading.{WithZeros};
+ghost use Rattle.bits.specs.Reading.{mostField, WithZeros};
 ghost use Rattle.bits.specs.inner.Window.{windowOf, putWindow};
 
 mod reader;
@@ -22,6 +22,9 @@ pub use writer::Writer;
 pub use writer::finish;
 pub use writer::write;
 pub use writer::writer_at;
+
+// The most bits of a field that is read: with the at most 7 bits before it in its first byte it lies in eight bytes.
+pub const MOST_FIELD: usize = 57;
 
 // Byte `index`; 0 past the end.
 fn byte_at(bytes: &[u8], index: usize) -> u32
@@ -58,9 +61,9 @@ fn eight_bytes(bytes: &[u8], first: usize) -> u64
 
 // The number in the `width` bits from bit `at`; a bit past the end is 0. The field is cut out of eight bytes from its first byte on. Near the
 // end of the slice they are its last eight, and zeros are shifted in behind them. The reader takes its fields by it.
-// It is private, so it may require eight bytes, and a width whose field lies in them: 64 bits less the at most 7 before it.
+// It is private, so it may require eight bytes, and a width whose field lies in them.
 fn digits_at(bytes: &[u8], at: usize, width: usize) -> u64
-    requires { ⌜ (width ≤ 57) × (8 ≤ length (now bytes)) ⌝ }
+    requires { ⌜ (width ≤ mostField) × (8 ≤ length (now bytes)) ⌝ }
     ensures { λ r. ⌜ r ≡ field (now (bytes .entry)) at width ⌝ }
 {
     let first = at / 8;

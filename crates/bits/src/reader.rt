@@ -4,7 +4,7 @@
 ghost use mathlib.Core.Path.{_≡_};
 ghost use Prim.Native.Nat.{_≤_};
 ghost use lib.ListN.{length};
-ghost use Rattle.bits.specs.Reading.{Room, onward, fieldBehind, takenFrom};
+ghost use Rattle.bits.specs.Reading.{mostField, Room, onward, fieldBehind, takenFrom};
 use crate::digits_at;
 
 // Where a reader stands. The two numbers move on together, so what was handed out is what the position moved by (`one-pass`).
@@ -53,7 +53,7 @@ pub fn reader_at<'a>(bytes: &'a [u8], cursor: Cursor) -> Reader<'a>
 
 // The number in the next `width` bits, and the reader behind them; a bit past the end is 0.
 pub fn take<'a>(reader: Reader<'a>, width: usize) -> Taken<'a>
-    requires { ⌜ (width ≤ 57) × (8 ≤ length (now (reader .bytes))) × Room (reader .cursor) width ⌝ }
+    requires { ⌜ (width ≤ mostField) × (8 ≤ length (now (reader .bytes))) × Room (reader .cursor) width ⌝ }
     ensures { λ r. ⌜ r ≡ takenFrom (reader .entry) width ⌝ }
 {
     let bytes = reader.bytes;
@@ -70,7 +70,7 @@ pub fn take<'a>(reader: Reader<'a>, width: usize) -> Taken<'a>
 // The number in the next `width` bits of `bytes`, and the cursor behind them; a bit past the end is 0. Its parameters hold no reference in
 // a struct, so a caller needs no proof by hand.
 pub fn next_field(bytes: &[u8], cursor: Cursor, width: usize) -> Field
-    requires { ⌜ (width ≤ 57) × (8 ≤ length (now bytes)) × Room cursor width ⌝ }
+    requires { ⌜ (width ≤ mostField) × (8 ≤ length (now bytes)) × Room cursor width ⌝ }
     ensures { λ r. ⌜ r ≡ fieldBehind (now (bytes .entry)) cursor width ⌝ }
 {
     let taken = take(reader_at(bytes, cursor), width);

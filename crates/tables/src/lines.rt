@@ -5,13 +5,14 @@ ghost use lib.Dec.{leb};
 ghost use lib.ListN.{length, getD};
 ghost use Rattle.limits.specs.Limits.{mostWidth, mostSwitches};
 ghost use Rattle.laws.specs.Any.{any};
-ghost use Rattle.bits.specs.Reading.{Room, onward};
+ghost use Rattle.bits.specs.Reading.{mostField, Room, onward};
 ghost use Rattle.network.specs.inner.Sizes.{Sized};
 ghost use Rattle.tables.specs.Terms.{cycles, lineBits};
 ghost use Rattle.tables.specs.Format.{Shaped, cursorAt};
 ghost use Rattle.tables.specs.inner.Lines.{Addresses, Spread, Switches, Sources, LineTaken, spareUsed};
 use crate::Shape;
 use bits::Cursor;
+use bits::MOST_FIELD;
 use limits::MOST_WIDTH;
 
 // The `count` addresses of `address` bits each that come next, and the cursor behind them.
@@ -34,7 +35,7 @@ fn addresses(file: &[u8], cursor: Cursor, address: usize, count: usize, found: &
 
 // Puts the `count` binary digits of a number from `found[from]` on, the highest first.
 fn spread(number: u64, count: usize, found: &mut [u8], from: usize)
-    requires { ⌜ (count ≤ 57) × (from + count ≤ length (now found)) × (from < 2 ^ 32) ⌝ }
+    requires { ⌜ (count ≤ mostField) × (from + count ≤ length (now found)) × (from < 2 ^ 32) ⌝ }
     ensures { λ _. ⌜ Spread number count from (now (found .entry)) (now (found .exit)) ⌝ }
 {
     let mut j = 0;
@@ -44,18 +45,18 @@ fn spread(number: u64, count: usize, found: &mut [u8], from: usize)
     }
 }
 
-// The `count` switch bits that come next, and the cursor behind them. They are taken 57 at a time, the most that a field has.
+// The `count` switch bits that come next, and the cursor behind them. They are taken as many at a time as a field has at most.
 fn switches(file: &[u8], cursor: Cursor, count: usize, found: &mut [u8]) -> Cursor
     requires { ⌜ (8 ≤ length (now file)) × (count ≤ mostSwitches) × Room cursor count × (length (now found) ≡ mostSwitches) ⌝ }
     ensures { λ r. ⌜ (r ≡ onward cursor count) × Switches (now (file .entry)) (cursor .at) count (now (found .exit)) ⌝ }
 {
     let mut next = cursor;
     let mut i = 0;
-    while i + 57 <= count {
-        let field = bits::next_field(file, next, 57);
-        spread(field.value, 57, found, i);
-        next = field.rest;
-        i += 57;
+    while i + MOST_FIELD <= count {
+        let taken = bits::next_field(file, next, MOST_FIELD);
+        spread(taken.value, MOST_FIELD, found, i);
+        next = taken.rest;
+        i += MOST_FIELD;
     }
     let rest = count - i;
     let last = bits::next_field(file, next, rest);

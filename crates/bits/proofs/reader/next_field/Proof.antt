@@ -38,7 +38,7 @@ use denote.Triple.Entry.{Vals, onEntry}
 use denote.Triple.Spec.{Meets, tripleOf}
 use denote.Triple.Table.{entered, cited}
 use denote.Triple.Walked.{says, needs, Stays, walkOf, Walks, ends-at, walked, walk-meets}
-use Rattle.bits.specs.Reading.{Room, fieldBehind, takenFrom}
+use Rattle.bits.specs.Reading.{mostField, Room, fieldBehind, takenFrom}
 use Rattle.bits.specs.declared.reader.Cursor.{Cursor}
 use Rattle.bits.specs.declared.reader.Field.{Field}
 use Rattle.bits.specs.declared.reader.Reader.{Reader}
@@ -123,7 +123,7 @@ module _ {M : Type 1} (𝓤 : URA M) (H : Heap 𝓤) (A : Atoms 𝓤) (W : Given
   abbrev to-take : Reader → Val → Take 𝓤 H A mem run .Ghost
   to-take r u = (((κ, tt), (q, tt), tt, (r, (w, tt)), (u ∷ [], (vint w64 w ∷ [], tt))), tt)
 
-  goes-take : w ≤ 57 → 8 ≤ length (now s) → Room c w → (r : Reader) (u : Val) → Made r
+  goes-take : w ≤ mostField → 8 ≤ length (now s) → Room c w → (r : Reader) (u : Val) → Made r
       → ent 𝓤 (⋆ 𝓤 H A (‵ (Row (κ, tt) .own r (u ∷ [])) ∷ (‵ (flft κ q) ⊛ ‵ ftrue) ∷ [])) (Take 𝓤 H A mem run .pre (to-take r u))
   goes-take ok long room r u made =
       qed W (‵ (Row (κ, tt) .own r (u ∷ [])) ∷ (‵ (flft κ q) ⊛ ‵ ftrue) ∷ []) ∵ says ! (ok, rw (made .0) long, rw (made .1) room) $
@@ -154,7 +154,7 @@ module _ {M : Type 1} (𝓤 : URA M) (H : Heap 𝓤) (A : Atoms 𝓤) (W : Given
 
   module _ (C : Calls 𝓤 H) (Λ : Loops 𝓤 H) (fm : FmC 𝓤 H (W .laws) C) (known-reader-at : Triple 𝓤 (C #bits·reader·reader-at) (ReaderAt 𝓤 H A mem run))
       (known-take : Triple 𝓤 (C #bits·reader·take) (Take 𝓤 H A mem run)) where
-    walk : Is (ShrSlice (named 0) κ u8) s (v ∷ []) → w ≤ 57 → 8 ≤ length (now s) → Room c w
+    walk : Is (ShrSlice (named 0) κ u8) s (v ∷ []) → w ≤ mostField → 8 ≤ length (now s) → Room c w
         → ent 𝓤 (onEntry 𝓤 H A next-field.signature (κ, tt) (q, tt) (s, (c, (w, tt))) vals)
         (WpFn 𝓤 H C Λ code.function (v ∷ Cur′.lowered c ∷ vint w64 w ∷ []) Post)
     walk p ok long room =

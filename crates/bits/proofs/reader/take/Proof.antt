@@ -42,7 +42,7 @@ use denote.Triple.Spec.{Meets, tripleOf}
 use denote.Triple.Table.{entered, cited}
 use denote.Triple.Walked.{says, needs, Stays, walkOf, Walks, ends-at, walked, walk-meets}
 use Rattle.bits.specs.Bits.{field}
-use Rattle.bits.specs.Reading.{Room, onward}
+use Rattle.bits.specs.Reading.{mostField, Room, onward}
 use Rattle.bits.specs.declared.reader.Cursor.{Cursor}
 use Rattle.bits.specs.declared.reader.Reader.{Reader}
 use Rattle.bits.specs.declared.reader.Taken.{Taken}
@@ -115,14 +115,14 @@ module _ {M : Type 1} (𝓤 : URA M) (H : Heap 𝓤) (A : Atoms 𝓤) (W : Given
   abbrev to-digits : Digits 𝓤 H A mem run .Ghost
   to-digits = (((κ, tt), (q, tt), tt, (d .bytes, (d .cursor .at, (w, tt))), (v ∷ [], (vint w64 (d .cursor .at) ∷ [], (vint w64 w ∷ [], tt)))), tt)
 
-  asked : w ≤ 57 → 8 ≤ length (now (d .bytes))
+  asked : w ≤ mostField → 8 ≤ length (now (d .bytes))
       → ent 𝓤 (onEntry 𝓤 H A digits.signature (κ, tt) (q, tt) (to-digits .0 .3) (to-digits .0 .4)) (Digits 𝓤 H A mem run .pre to-digits)
   asked ok long =
       qed W ((‵ (flft κ q) ⊛ ‵ ftrue) ∷ ‵ (owns (ShrSlice (named 0) κ u8 ∷ usize ∷ usize ∷ []) (to-digits .0 .3) (to-digits .0 .4)) ∷ []) ∵
       says ! (ok, long) $ frame ! $ done !
 
   -- what the struct owns gives what `digits_at` asks, and is kept twice
-  apart : Fits (d .cursor) → w ≤ 57 → 8 ≤ length (now (d .bytes))
+  apart : Fits (d .cursor) → w ≤ mostField → 8 ≤ length (now (d .bytes))
       → ent 𝓤 (onEntry 𝓤 H A take.signature (κ, tt) (q, tt) (d, (w, tt)) vals)
       (sep 𝓤 (Digits 𝓤 H A mem run .pre to-digits) (sep 𝓤 (sem 𝓤 H A Own) (sem 𝓤 H A Own)))
   apart fits ok long =
@@ -159,7 +159,7 @@ module _ {M : Type 1} (𝓤 : URA M) (H : Heap 𝓤) (A : Atoms 𝓤) (W : Given
 
   module _ (C : Calls 𝓤 H) (Λ : Loops 𝓤 H) (fm : FmC 𝓤 H (W .laws) C) (known-digits : Triple 𝓤 (C #bits·digits-at) (Digits 𝓤 H A mem run))
       (known-move-on : Triple 𝓤 (C #bits·reader·move-on) (MoveOn 𝓤 H A mem run)) where
-    walk : Holds (hasTy (T′.mir (named 0)) mach) × WT mach → Fits (d .cursor) → w ≤ 57 → 8 ≤ length (now (d .bytes)) → Room (d .cursor) w
+    walk : Holds (hasTy (T′.mir (named 0)) mach) × WT mach → Fits (d .cursor) → w ≤ mostField → 8 ≤ length (now (d .bytes)) → Room (d .cursor) w
         → ent 𝓤 (onEntry 𝓤 H A take.signature (κ, tt) (q, tt) (d, (w, tt)) vals) (WpFn 𝓤 H C Λ code.function (mach ∷ vint w64 w ∷ []) Post)
     walk wt fits ok long room =
         qed W (raw (onEntry 𝓤 H A take.signature (κ, tt) (q, tt) (d, (w, tt)) vals) ∷ []) ∵ enter ! C Λ code.function (mach ∷ vint w64 w ∷ []) _ $

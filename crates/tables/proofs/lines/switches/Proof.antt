@@ -7,7 +7,7 @@ use borrow.Author.Needs.{needs}
 use Rattle.limits.specs.Limits.{mostSwitches}
 use Rattle.laws.proofs.Tabulates.{Filling}
 use Rattle.bits.specs.Bits.{bit}
-use Rattle.bits.specs.Reading.{onward}
+use Rattle.bits.specs.Reading.{mostField, onward}
 use Rattle.bits.proofs.OnePass.{onward-none}
 use Rattle.tables.proofs.Cursors.{room-behind, field-behind}
 use Rattle.tables.proofs.Scans.{filling-spread}
@@ -66,7 +66,7 @@ loop-again c =
     let d = turn p in
     let l = d .before .loop in
     let s = start (d .before) in
-    let taken = field-behind (s .args .cursor) (l .i) (l .inv .1) (s .args .file .now) 57 (p .before .before .next-field .ensures) in (
+    let taken = field-behind (s .args .cursor) (l .i) (l .inv .1) (s .args .file .now) mostField (p .before .before .next-field .ensures) in (
       omega (arith, d .loop-test .taken),
       taken .1,
       filling-spread (s .args .file .now) (s .args .cursor .at) (l .inv .2) (p .spread .ensures) (taken .0),
