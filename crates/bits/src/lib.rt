@@ -45,14 +45,14 @@ fn window_at(bytes: &[u8], first: usize) -> u32
     (byte_at(bytes, first) * 256 + byte_at(bytes, first + 1)) * 256 + byte_at(bytes, first + 2)
 }
 
-// The eight bytes from byte `first` as one number; all of them lie in the slice. This is compiled to one load and a swap of its bytes.
-fn eight_bytes(bytes: &[u8], first: usize) -> u64
-    requires { ⌜ first + 8 ≤ length (now bytes) ⌝ }
-    ensures { λ r. ⌜ r ≡ field (now (bytes .entry)) (8 * first) 64 ⌝ }
+// The `count` bytes from byte `first` as one number; all of them lie in the slice. Eight are compiled to one load and a swap of its bytes.
+fn bytes_from(bytes: &[u8], first: usize, count: usize) -> u64
+    requires { ⌜ (first + count ≤ length (now bytes)) × (count ≤ 8) ⌝ }
+    ensures { λ r. ⌜ r ≡ field (now (bytes .entry)) (8 * first) (8 * count) ⌝ }
 {
     let mut number: u64 = 0;
     let mut i = 0;
-    while i < 8 {
+    while i < count {
         number = number * 256 + bytes[first + i] as u64;
         i += 1;
     }
@@ -72,7 +72,7 @@ fn digits_at(bytes: &[u8], at: usize, width: usize) -> u64
     let before = at - 8 * start;
     if before < 64 {
         // The first shift drops the bits before the field, the others those behind it. They are two, as none may be by 64.
-        return ((eight_bytes(bytes, start) << before) >> 1) >> (63 - width);
+        return ((bytes_from(bytes, start, 8) << before) >> 1) >> (63 - width);
     }
     0
 }
@@ -82,12 +82,7 @@ fn short_number(bytes: &[u8]) -> u64
     requires { ⌜ length (now bytes) < 8 ⌝ }
     ensures { λ r. ⌜ r ≡ field (now (bytes .entry)) 0 64 ⌝ }
 {
-    let mut number: u64 = 0;
-    let mut i = 0;
-    while i < bytes.len() {
-        number = number * 256 + bytes[i] as u64;
-        i += 1;
-    }
+    let number = bytes_from(bytes, 0, bytes.len());
     // They are two shifts, as none may be by 64.
     (number << 8) << (56 - 8 * bytes.len())
 }

@@ -42,8 +42,8 @@ mul-before c = record { fits = omega (arith, starts (c .before) .before, c .befo
 sub-before : tie.Need-sub-before
 sub-before c = starts (c .before) .before
 
-eight-bytes-requires : tie.Need-eight-bytes-requires
-eight-bytes-requires c κs = starts (c .before .before) .inside
+bytes-from-requires : tie.Need-bytes-from-requires
+bytes-from-requires c κs = (starts (c .before .before) .inside, omega arith)
 
 shl-result : tie.Need-shl-result
 shl-result c = search needs
@@ -66,7 +66,7 @@ returns c =
     let place : 8 * start + k ≡ at = omega (arith, S .before) in
     let ends : (k + w ≤ 64) ⊎ (length (now (s .args .bytes)) ≤ start + 8) =
     ⊎-elim {C = (k + w ≤ 64) ⊎ (length (now (s .args .bytes)) ≤ start + 8)} (λ e. inl (omega (arith, s .pre .0))) inr (S .reaches) in
-    rw (c .eight-bytes .ensures) (rw place at (field-shifts (now (s .args .bytes)) start k w (c .before .if2 .taken) (s .pre .0) ends))
+    rw (c .bytes-from .ensures) (rw place at (field-shifts (now (s .args .bytes)) start k w (c .before .if2 .taken) (s .pre .0) ends))
 
 returns-2 : tie.Need-returns-2
 returns-2 c =
@@ -85,7 +85,7 @@ digits-at-spec =
     sub-last
     mul-before
     sub-before
-    eight-bytes-requires
+    bytes-from-requires
     shl-result
     sub-result
     shr-result
