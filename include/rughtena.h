@@ -20,7 +20,8 @@
  * it the longer n): the least multiple of w that is n or more. A frame takes whole cycles, so generating, which is given the n of an order,
  * makes a set of the padded n, in which each word from n on keeps its place. The n of a set is a padded one, and w divides it. c = padded
  * n / w cycles in a frame. a: the bits of an address, the least whole number with 2^a at least c (0 when c is 1). B: the switch bits of a
- * network whose lines are the least power of two not below w. Line t of a set: its addresses and switch bits for cycle t.
+ * network whose lines are the least power of two not below w. Line t of a set: its addresses and switch bits for cycle t. A switch is
+ * crossed where its bit is 1; the last output switch of a network has no bit, stands straight and is not counted.
  *
  * Refusals. A refused call alters no lent word, scratch included. Its number says why (enum rughtena_refusal), its place where (0 if the
  * number names none).
@@ -37,7 +38,7 @@ extern "C" {
 
 /* The version of this header. RUGHTENA_VERSION is one number, which grows with each version. */
 #define RUGHTENA_VERSION_MAJOR 0
-#define RUGHTENA_VERSION_MINOR 6
+#define RUGHTENA_VERSION_MINOR 7
 #define RUGHTENA_VERSION_PATCH 0
 #define RUGHTENA_VERSION (RUGHTENA_VERSION_MAJOR * 10000 + RUGHTENA_VERSION_MINOR * 100 + RUGHTENA_VERSION_PATCH)
 
@@ -154,14 +155,31 @@ typedef struct {
     size_t value;
 } rughtena_answer;
 
-/* number 0: accepted, with place 0, n, w and the line bits that were taken, c(2wa + B). Otherwise a refusal's number and place, and all three
- * are 0. */
+/* number 0: accepted, `value` is the line on which the followed one leaves, and `crossed` the crossed switches of the network. Otherwise a
+ * refusal's number, `value` is its place, and `crossed` is 0. */
+typedef struct {
+    size_t number;
+    size_t value;
+    size_t crossed;
+} rughtena_follow_answer;
+
+/* number 0: accepted, `wrote` is 1 if w words were written and 0 while the card fills, and `value` the crossed switches of the line that was
+ * moved. Otherwise a refusal's number, `wrote` is 0, and `value` is its place. Its 16 bytes come back in two registers. */
+typedef struct {
+    uint32_t number;
+    uint32_t wrote;
+    size_t value;
+} rughtena_step_answer;
+
+/* number 0: accepted, with place 0, n, w, the line bits that were taken, c(2wa + B), and the crossed switches of all lines. Otherwise a
+ * refusal's number and place, and all four are 0. */
 typedef struct {
     size_t number;
     size_t place;
     size_t words;
     size_t width;
     size_t line_bits;
+    size_t crossed;
 } rughtena_read_answer;
 
 /* A clock; all zero before the first step. An accepted step moves it on, a refused one leaves it. */
@@ -184,7 +202,8 @@ rughtena_answer rughtena_generate(size_t n, size_t w, const uint16_t *images, si
 /* Reads a table set; file_len is exactly its length.
  * Lent: n images, written if the set is accepted; 2n scratch words, which are not written. n is the set's, so the padded one.
  * Each line bit of the file is taken once: one pass tests the lines and gathers their images. The images are written only after the last line has
- * passed. Gives n, w and the number of line bits; the 24 bits of the header and the filling bits are not counted.
+ * passed. Gives n, w, the number of line bits and the crossed switches of all c lines; the 24 bits of the header and the filling bits are not
+ * counted.
  * Refuses 6, 7, 6, 8, 12, then line by line 9, 10, 11. */
 rughtena_read_answer rughtena_read(const uint8_t *file, size_t file_len, uint16_t *images, size_t images_len,
                                    const uint16_t *scratch, size_t scratch_len);
@@ -196,19 +215,21 @@ rughtena_read_answer rughtena_read(const uint8_t *file, size_t file_len, uint16_
 rughtena_answer rughtena_set(size_t width, const uint16_t *images, size_t images_len, uint8_t *values, size_t values_len);
 
 /* Follows a line through a network of `width` lines whose switches stand as the first B values say.
- * Gives the line on which it leaves. Refuses 2, 12, 15, 4. */
-rughtena_answer rughtena_follow(size_t width, const uint8_t *values, size_t values_len, size_t line);
+ * Gives the line on which it leaves, and the crossed switches of the whole network, the ones among the first B values.
+ * Refuses 2, 12, 15, 4. */
+rughtena_follow_answer rughtena_follow(size_t width, const uint8_t *values, size_t values_len, size_t line);
 
 /* One step of the cycle machine on a table set; file_len is exactly its length.
  * Lent: the clock, written; two memories of 2n words, written; exactly w entering words, read; w output words, written once the card is
  * full. n is the set's, so the padded one. Words behind these stay in the memories and in the output. The memories may hold anything before
  * the first step and belong to the card from then on.
- * Gives 1 if w words were written, and 0 while the card fills.
+ * Says whether w words were written, and gives the crossed switches of the line that it moved, which has the number of the clock's cycle before
+ * the step. With fill 0 no line is moved, and that is 0. The switches count as they stand in the file, also where rughtena_read refuses the set.
  * Refuses 6, 7, 6, 8, 12, 13, 14 and, with fill 1 or more, 9, 10 and 11 for the line of this cycle (addresses out of range only:
  * repeated ones are found by rughtena_read). */
-rughtena_answer rughtena_step(const uint8_t *file, size_t file_len, rughtena_clock *clock, uint16_t *first,
-                              size_t first_len, uint16_t *second, size_t second_len, const uint16_t *words,
-                              size_t words_len, uint16_t *out, size_t out_len);
+rughtena_step_answer rughtena_step(const uint8_t *file, size_t file_len, rughtena_clock *clock, uint16_t *first,
+                                   size_t first_len, uint16_t *second, size_t second_len, const uint16_t *words,
+                                   size_t words_len, uint16_t *out, size_t out_len);
 
 /* The version of the linked library, as RUGHTENA_VERSION. */
 size_t rughtena_version(void);

@@ -1,6 +1,6 @@
 /* What include/rughtena.h defines, held to what the library answers: padded numbers of words, the lengths of sets and their line bits, the
- * switch values of networks, the numbers of refusals and their texts. It keeps to C89 and to C++98, since tests/header compiles it under every
- * standard from there on. */
+ * switch values of networks, crossed switches, the numbers of refusals and their texts. It keeps to C89 and to C++98, since tests/header
+ * compiles it under every standard from there on. */
 #include <rughtena.h>
 #include <stdio.h>
 #include <string.h>
@@ -41,9 +41,16 @@ HOLDS(read_scratch_is_a_size, sizeof(RUGHTENA_READ_SCRATCH(12)) == sizeof(size_t
 HOLDS(version_number, RUGHTENA_VERSION == RUGHTENA_VERSION_MAJOR * 10000 + RUGHTENA_VERSION_MINOR * 100 + RUGHTENA_VERSION_PATCH);
 HOLDS(accepted_is_0, RUGHTENA_ACCEPTED == 0);
 HOLDS(last_number, RUGHTENA_SWITCH_VALUE == 15);
+HOLDS(six_sizes_of_a_reading, sizeof(rughtena_read_answer) == 6 * sizeof(size_t));
+HOLDS(last_of_a_reading, offsetof(rughtena_read_answer, crossed) == 5 * sizeof(size_t));
+HOLDS(three_sizes_of_a_following, sizeof(rughtena_follow_answer) == 3 * sizeof(size_t));
+HOLDS(last_of_a_following, offsetof(rughtena_follow_answer, crossed) == 2 * sizeof(size_t));
+HOLDS(two_registers_of_a_step, sizeof(rughtena_step_answer) == 16);
+HOLDS(second_of_a_step, offsetof(rughtena_step_answer, wrote) == 4);
+HOLDS(last_of_a_step, offsetof(rughtena_step_answer, value) == 8);
 
-#if RUGHTENA_VERSION < 600
-#error "RUGHTENA_VERSION is no number of the preprocessor, or below 0.6.0"
+#if RUGHTENA_VERSION < 700
+#error "RUGHTENA_VERSION is no number of the preprocessor, or below 0.7.0"
 #endif
 
 static uint16_t images[RUGHTENA_MOST_WORDS], read_images[RUGHTENA_MOST_WORDS];
@@ -60,7 +67,7 @@ static void same(const char *what, size_t first, size_t second, size_t expected,
 }
 
 /* File and scratch of the macros' sizes are enough, an element less of either is refused, and the library answers with the macro's length.
- * The set that is read back has the padded words, and in each cycle the macro's bits. */
+ * The set that is read back has the padded words, in each cycle the macro's bits, and no crossed switch, since all words keep their places. */
 static void length_of(size_t n, size_t w) {
     const size_t length = RUGHTENA_SET_LENGTH(n, w), room = RUGHTENA_GENERATE_SCRATCH(n, w);
     rughtena_read_answer read;
@@ -75,6 +82,7 @@ static void length_of(size_t n, size_t w) {
     same("words of the set", n, w, RUGHTENA_FRAME(n, w), read.words);
     same("width of the set", n, w, w, read.width);
     same("line bits of the set", n, w, RUGHTENA_CYCLES(n, w) * RUGHTENA_CYCLE_BITS(n, w), read.line_bits);
+    same("crossed switches of the set", n, w, 0, read.crossed);
 }
 
 /* Arguments of types in which the larger limits cannot be written; a compiler warns where a comparison cannot fail. */
@@ -134,13 +142,15 @@ static void switches(void) {
     }
 }
 
-/* The number that reading the file answers with. An accepted one has 12 words, width 3 and 68 line bits here; a refused one has none of them. */
+/* The number that reading the file answers with. An accepted one has 12 words, width 3, 68 line bits and 6 crossed switches here; a refused one
+ * has none of them. */
 static size_t number_of_reading(size_t file_len, size_t images_len) {
     const rughtena_read_answer read = rughtena_read(file, file_len, read_images, images_len, scratch, 24);
     const size_t accepted = read.number == RUGHTENA_ACCEPTED;
     same("words that were read", 12, 3, accepted ? 12 : 0, read.words);
     same("width that was read", 12, 3, accepted ? 3 : 0, read.width);
     same("line bits that were read", 12, 3, accepted ? 68 : 0, read.line_bits);
+    same("crossed switches that were read", 12, 3, accepted ? 6 : 0, read.crossed);
     return read.number;
 }
 
@@ -197,6 +207,62 @@ static void numbers_of_steps(void) {
     same("switch value", 2, 0, RUGHTENA_SWITCH_VALUE, rughtena_follow(2, values, 1, 0).number);
 }
 
+/* What following a line through these values answers with. */
+static void follows(size_t width, size_t values_len, size_t line, size_t number, size_t value, size_t crossed) {
+    const rughtena_follow_answer found = rughtena_follow(width, values, values_len, line);
+    same("number of a followed line", width, line, number, found.number);
+    same("value of a followed line", width, line, value, found.value);
+    same("crossed switches of a network", width, line, crossed, found.crossed);
+}
+
+/* All switches crossed, then one straight, and refusals, which have no crossed switch. Values behind those of the network do not count. */
+static void followings(void) {
+    size_t width;
+    memset(values, 1, sizeof values);
+    for (width = 1; width <= RUGHTENA_MOST_WIDTH; width *= 2) {
+        follows(width, sizeof values, 0, RUGHTENA_ACCEPTED, width - 1, RUGHTENA_SWITCHES(width));
+        follows(width, sizeof values, width, RUGHTENA_OUT_OF_RANGE, width, 0);
+    }
+    follows(4, 4, 0, RUGHTENA_BUFFER_SHORT, 0, 0);
+    follows(3, 5, 0, RUGHTENA_WIDTH, 0, 0);
+    values[1] = 0;
+    follows(4, 6, 2, RUGHTENA_ACCEPTED, 1, 4);
+    values[5] = 9;
+    follows(4, 6, 2, RUGHTENA_ACCEPTED, 1, 4);
+    values[2] = 2;
+    follows(4, 6, 9, RUGHTENA_SWITCH_VALUE, 2, 0);
+}
+
+/* Twelve steps on example 4 of document 01, with a refused one before each: all parts of their answers. */
+static void steps(void) {
+    static const uint8_t example[12] = {0x00, 0x60, 0x30, 0x0c, 0x0c, 0xa8, 0x58, 0x2a, 0x2e, 0xfe, 0xd0, 0xe0};
+    static const size_t crossed[12] = {0, 0, 0, 0, 0, 2, 2, 2, 0, 2, 2, 2};
+    static uint16_t first[24], second[24], words[3], out[3];
+    rughtena_clock clock = {0, 0, 0};
+    size_t at;
+    for (at = 0; at < 12; at++) {
+        rughtena_step_answer step = rughtena_step(example, 12, &clock, first, 24, second, 24, words, 2, out, 3);
+        same("number of a refused step", 12, at, RUGHTENA_WORD_COUNT, step.number);
+        same("words written by a refused step", 12, at, 0, step.wrote);
+        same("place of a refused step", 12, at, 0, step.value);
+        step = rughtena_step(example, 12, &clock, first, 24, second, 24, words, 3, out, 3);
+        same("number of a step", 12, at, RUGHTENA_ACCEPTED, step.number);
+        same("words written by a step", 12, at, at >= 8, step.wrote);
+        same("crossed switches of a step", 12, at, crossed[at], step.value);
+    }
+}
+
+/* A step whose line carries a word to the spare line: its place is the line, and it has no crossed switch. */
+static void refused_line(void) {
+    static const uint8_t damaged[12] = {0x00, 0x60, 0x30, 0x0c, 0x0c, 0xa8, 0x78, 0x2a, 0x2e, 0xfe, 0xd0, 0xe0};
+    static uint16_t first[24], second[24], words[3], out[3];
+    rughtena_clock clock = {1, 0, 1};
+    const rughtena_step_answer step = rughtena_step(damaged, 12, &clock, first, 24, second, 24, words, 3, out, 3);
+    same("number of a refused line", 12, 1, RUGHTENA_SPARE_LINE, step.number);
+    same("words written with a refused line", 12, 1, 0, step.wrote);
+    same("place of a refused line", 12, 1, 1, step.value);
+}
+
 /* Each number has a text of its own, a const char * that needs no cast, and no other number shares it. */
 static void texts(void) {
     size_t number, other;
@@ -225,6 +291,9 @@ int main(void) {
     numbers_of_sets();
     numbers_of_lines();
     numbers_of_steps();
+    followings();
+    steps();
+    refused_line();
     texts();
     version();
     return failures != 0;

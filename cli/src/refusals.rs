@@ -190,7 +190,7 @@ fn spare(lines: &[Line], t: usize, shape: &Shape) -> Option<String> {
         .map(|&crossed| crossed as u8)
         .collect();
     (0..shape.w).find_map(|bank| {
-        let line = rughtena::follow(shape.v, &values, bank).ok()?;
+        let line = rughtena::follow(shape.v, &values, bank).ok()?.line;
         (line >= shape.w).then(|| {
             format!("the network carries the word of bank {bank} to line {line}, which has no bank")
         })

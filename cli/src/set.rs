@@ -29,6 +29,8 @@ pub struct Reading {
     pub n: usize,
     pub w: usize,
     pub line_bits: usize,
+    /// The crossed switches of all lines.
+    pub crossed: usize,
     pub images: Vec<u16>,
 }
 
@@ -103,6 +105,7 @@ pub fn read(file: &[u8]) -> Result<Reading, Refusal> {
         n: contents.words,
         w: contents.width,
         line_bits: contents.line_bits,
+        crossed: contents.crossed,
         images,
     })
 }

@@ -2,6 +2,10 @@
 //! fixed order without a pause: word i leaves at place `images[i]`. A table set, a small bit-packed file, tells the card what its memories
 //! and its permutation network do in each of the c cycles of a frame.
 //!
+//! A switch of the network is crossed where its bit in the set is 1. [`follow`], [`step`] and [`read`] count the crossed switches, for those who
+//! plan power: of one network, of the line that a step moves, and of all lines of a set. The last output switch of a network has no bit, stands
+//! straight and is not counted.
+//!
 //! n is 1 to [`MOST_WORDS`], w is 1 to [`MOST_WIDTH`]. A frame takes whole cycles, so w divides the n of a set. The n of an order may be any:
 //! [`generate`] makes a set of the padded n, [`frame(n, w)`](frame), in which each word from n on keeps its place.
 //!
@@ -53,6 +57,28 @@ pub struct Contents {
     pub width: usize,
     /// The line bits that were taken, c(2wa + B). The 24 bits of the header and the filling bits are not counted.
     pub line_bits: usize,
+    /// The crossed switches of all lines, the ones among their cB switch bits.
+    pub crossed: usize,
+}
+
+/// What an accepted following of a line gives.
+#[derive(Clone, Copy, Debug, PartialEq, Eq)]
+#[non_exhaustive]
+pub struct Passage {
+    /// The line on which the followed one leaves.
+    pub line: usize,
+    /// The crossed switches of the whole network, the ones among its [`switches(width)`](switches) values.
+    pub crossed: usize,
+}
+
+/// What an accepted step gives, beside the words that left.
+#[derive(Clone, Copy, Debug, PartialEq, Eq)]
+#[non_exhaustive]
+pub struct Stepped {
+    /// Whether words left.
+    pub said: Said,
+    /// The crossed switches of the line that the step moved. With a fill of 0 no line is moved, and it is 0.
+    pub crossed: usize,
 }
 
 /// What an accepted step says.
@@ -154,8 +180,8 @@ pub fn generate(
     raw::generate(n, w, images, file, scratch).value()
 }
 
-/// Reads a table set, and gives its n, a padded one, its w and the number of its line bits. `file` has the bytes of the set and no others.
-/// Word i leaves at place `images[i]`.
+/// Reads a table set, and gives its n, a padded one, its w, the number of its line bits and the number of crossed switches in all of its lines.
+/// `file` has the bytes of the set and no others. Word i leaves at place `images[i]`.
 ///
 /// Needed are n words of `images`, of which the first n are written, and [`read_scratch(n)`](read_scratch) words of `scratch`, which are
 /// not written. A file in the form of a table set is accepted exactly when it performs a permutation. Each line bit is taken once: one pass tests
@@ -173,7 +199,8 @@ pub fn generate(
 /// let set = [0x00, 0x10, 0x20, 0x80];
 /// let mut images = [0; 2];
 /// let contents = read(&set, &mut images, &[0; read_scratch(2)])?;
-/// assert_eq!((contents.words, contents.width, contents.line_bits), (2, 2, 1));
+/// assert_eq!((contents.words, contents.width), (2, 2));
+/// assert_eq!((contents.line_bits, contents.crossed), (1, 1));
 /// assert_eq!(images, [1, 0]);
 ///
 /// let refusal = read(&set[..3], &mut images, &[0; read_scratch(2)]).unwrap_err();
@@ -197,12 +224,13 @@ pub fn read(file: &[u8], images: &mut [u16], scratch: &[u16]) -> Result<Contents
 /// [`OUT_OF_RANGE`](Refusal::OUT_OF_RANGE) or [`REPEATED`](Refusal::REPEATED).
 ///
 /// ```
-/// use rughtena::{follow, set, switches};
+/// use rughtena::{follow, set, switches, Refusal};
 ///
 /// let mut values = [0; switches(4)];
 /// assert_eq!(set(4, &[2, 0, 3, 1], &mut values), Ok(5));
-/// assert_eq!(follow(4, &values, 0), Ok(2));
-/// assert_eq!(follow(4, &values, 3), Ok(1));
+/// assert_eq!(follow(4, &values, 0)?.line, 2);
+/// assert_eq!(follow(4, &values, 3)?.line, 1);
+/// # Ok::<(), Refusal>(())
 /// ```
 #[inline]
 pub fn set(width: usize, images: &[u16], values: &mut [u8]) -> Result<usize, Refusal> {
@@ -210,7 +238,7 @@ pub fn set(width: usize, images: &[u16], values: &mut [u8]) -> Result<usize, Ref
 }
 
 /// Follows a line through a network of `width` lines whose switches stand as the first [`switches(width)`](switches) values say, and gives
-/// the line on which it leaves. Later values do not matter.
+/// the line on which it leaves and the number of crossed switches of the whole network. Later values do not matter.
 ///
 /// # Errors
 ///
@@ -220,17 +248,23 @@ pub fn set(width: usize, images: &[u16], values: &mut [u8]) -> Result<usize, Ref
 /// ```
 /// use rughtena::{follow, Refusal};
 ///
-/// assert_eq!(follow(2, &[1], 0), Ok(1));
+/// let passage = follow(4, &[1, 0, 1, 1, 1], 2)?;
+/// assert_eq!((passage.line, passage.crossed), (1, 4));
+///
 /// let refusal = follow(2, &[1], 2).unwrap_err();
 /// assert_eq!(refusal, Refusal { number: Refusal::OUT_OF_RANGE, place: 2 });
+/// # Ok::<(), Refusal>(())
 /// ```
 #[inline]
-pub fn follow(width: usize, values: &[u8], line: usize) -> Result<usize, Refusal> {
-    raw::follow(width, values, line).value()
+pub fn follow(width: usize, values: &[u8], line: usize) -> Result<Passage, Refusal> {
+    raw::follow(width, values, line).passage()
 }
 
 /// One step of the cycle machine on a table set: w words enter, and once the card holds two frames w words leave. An accepted step moves the
 /// clock on, a refused one leaves it.
+///
+/// With a fill of 1 or more it moves the line of the set that has the number of the clock's cycle, and gives the number of its crossed switches.
+/// They count as they stand in the file, also where [`read`] refuses the set. With a fill of 0 no line is moved, and the number is 0.
 ///
 /// `file` has the bytes of the set and no others, `words` exactly w words. `first` and `second` are the memories, of 2n words each, with the
 /// set's n, which [`read`] gives; they may hold anything before the first step, and belong to the card from then on. `out` has room for w
@@ -251,12 +285,13 @@ pub fn follow(width: usize, values: &[u8], line: usize) -> Result<usize, Refusal
 /// let set = [0x00, 0x10, 0x20, 0x80];
 /// let (mut first, mut second, mut out) = ([0; 4], [0; 4], [0; 2]);
 /// let mut clock = Clock::default();
-/// for words in [[10, 11], [20, 21]] {
-///     let said = step(&set, &mut clock, &mut first, &mut second, &words, &mut out)?;
-///     assert_eq!(said, Said::Filling);
+/// for (words, crossed) in [([10, 11], 0), ([20, 21], 1)] {
+///     let stepped = step(&set, &mut clock, &mut first, &mut second, &words, &mut out)?;
+///     assert_eq!((stepped.said, stepped.crossed), (Said::Filling, crossed));
 /// }
-/// let said = step(&set, &mut clock, &mut first, &mut second, &[30, 31], &mut out)?;
-/// assert_eq!((said, out), (Said::Wrote, [11, 10]));
+/// let stepped = step(&set, &mut clock, &mut first, &mut second, &[30, 31], &mut out)?;
+/// assert_eq!((stepped.said, stepped.crossed), (Said::Wrote, 1));
+/// assert_eq!(out, [11, 10]);
 /// # Ok::<(), Refusal>(())
 /// ```
 #[inline]
@@ -267,6 +302,6 @@ pub fn step(
     second: &mut [u16],
     words: &[u16],
     out: &mut [u16],
-) -> Result<Said, Refusal> {
-    raw::step(file, clock, first, second, words, out).said()
+) -> Result<Stepped, Refusal> {
+    raw::step(file, clock, first, second, words, out).stepped()
 }

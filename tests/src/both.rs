@@ -3,9 +3,9 @@
 //! integer by integer, as C gets them.
 use crate::lent::Lent;
 use crate::orders::Random;
-use crate::second::{self, Contents, Dims};
+use crate::second::{self, Contents, Dims, Passage, Stepped};
 use crate::{generate_scratch, Clock, Refusal, Said};
-use rughtena::raw::{self, Answer, ReadAnswer};
+use rughtena::raw::{self, Answer, FollowAnswer, ReadAnswer, StepAnswer};
 
 /// The integers of a call with one value.
 fn integers(answer: Result<usize, Refusal>) -> Answer {
@@ -19,12 +19,13 @@ fn integers(answer: Result<usize, Refusal>) -> Answer {
 /// The integers of a reading.
 fn read_integers(answer: Result<Contents, Refusal>) -> ReadAnswer {
     match answer {
-        Ok(Contents { n, w, line_bits }) => ReadAnswer {
+        Ok(contents) => ReadAnswer {
             number: 0,
             place: 0,
-            words: n,
-            width: w,
-            line_bits,
+            words: contents.n,
+            width: contents.w,
+            line_bits: contents.line_bits,
+            crossed: contents.crossed,
         },
         Err(Refusal { number, place }) => ReadAnswer {
             number,
@@ -32,6 +33,7 @@ fn read_integers(answer: Result<Contents, Refusal>) -> ReadAnswer {
             words: 0,
             width: 0,
             line_bits: 0,
+            crossed: 0,
         },
     }
 }
@@ -42,15 +44,50 @@ fn read_contents(answer: ReadAnswer) -> Result<Contents, Refusal> {
         n: contents.words,
         w: contents.width,
         line_bits: contents.line_bits,
+        crossed: contents.crossed,
     })
 }
 
-/// The value by which a step says what it did: 0 for `filling`, 1 for written words.
-fn said_value(said: Said) -> usize {
-    match said {
-        Said::Filling => 0,
-        Said::Wrote => 1,
+/// The integers of a following.
+fn follow_integers(answer: Result<Passage, Refusal>) -> FollowAnswer {
+    let (number, value, crossed) = match answer {
+        Ok(passage) => (0, passage.line, passage.crossed),
+        Err(refusal) => (refusal.number, refusal.place, 0),
+    };
+    FollowAnswer {
+        number,
+        value,
+        crossed,
     }
+}
+
+/// What the crate makes of those integers, in the second implementation's form.
+fn passage(answer: FollowAnswer) -> Result<Passage, Refusal> {
+    answer.passage().map(|passage| Passage {
+        line: passage.line,
+        crossed: passage.crossed,
+    })
+}
+
+/// The integers of a step.
+fn step_integers(answer: Result<Stepped, Refusal>) -> StepAnswer {
+    let (number, wrote, value) = match answer {
+        Ok(stepped) => (0, stepped.said == Said::Wrote, stepped.crossed),
+        Err(refusal) => (refusal.number as u32, false, refusal.place),
+    };
+    StepAnswer {
+        number,
+        wrote: wrote as u32,
+        value,
+    }
+}
+
+/// What the crate makes of those integers, in the second implementation's form.
+fn stepped(answer: StepAnswer) -> Result<Stepped, Refusal> {
+    answer.stepped().map(|stepped| Stepped {
+        said: stepped.said,
+        crossed: stepped.crossed,
+    })
 }
 
 /// Generating; answers with the set. Its bytes are settled, and so is what stands behind them. Scratch words below the padded n are not.
@@ -137,15 +174,16 @@ pub fn set(width: usize, images: &[u16], values: &Lent<u8>) -> Result<Vec<u8>, R
     }
 }
 
-pub fn follow(width: usize, values: &[u8], line: usize) -> Result<usize, Refusal> {
+/// Following a line. A refused following gives C no count.
+pub fn follow(width: usize, values: &[u8], line: usize) -> Result<Passage, Refusal> {
     let answer = raw::follow(width, values, line);
     let expected = second::follow(width, values, line);
-    assert_eq!(answer, integers(expected));
-    assert_eq!(answer.value(), expected);
+    assert_eq!(answer, follow_integers(expected));
+    assert_eq!(passage(answer), expected);
     expected
 }
 
-/// A step; the memories and the output stay as the step left them.
+/// A step; the memories and the output stay as the step left them. A refused step gives C its place and no count.
 pub fn step(
     file: &[u8],
     clock: &mut Clock,
@@ -153,7 +191,7 @@ pub fn step(
     second_memory: &mut Lent<u16>,
     words: &[u16],
     out: &mut Lent<u16>,
-) -> Result<Said, Refusal> {
+) -> Result<Stepped, Refusal> {
     let before = *clock;
     let mut other_clock = *clock;
     let mut other_first = first.clone();
@@ -176,8 +214,8 @@ pub fn step(
         words,
         other_out.part(),
     );
-    assert_eq!(answer, integers(expected.map(said_value)));
-    assert_eq!(answer.said(), expected);
+    assert_eq!(answer, step_integers(expected));
+    assert_eq!(stepped(answer), expected);
     assert_eq!(*clock, other_clock);
     assert_eq!(
         (&*first, &*second_memory, &*out),

@@ -1,5 +1,5 @@
-//! A second implementation of the calls, in safe Rust, written from document 01 and, for widths that do not divide a frame and for the choice
-//! of the read lines, from document 02. Generating is slow and plain here; `fast` has a quicker one.
+//! A second implementation of the calls, in safe Rust, written from document 01 and, for widths that do not divide a frame, for the choice of
+//! the read lines and for the crossed switches, from document 02. Generating is slow and plain here; `fast` has a quicker one.
 use crate::{refuse, Clock, Refusal, Said};
 use std::borrow::Cow;
 
@@ -55,6 +55,21 @@ impl Dims {
             line,
             length: 3 + (c * line).div_ceil(8),
         }
+    }
+
+    /// The crossed switches of line t, counted in the bytes of the file: the ones of all bytes that have switch bits of the line, without those
+    /// before and behind.
+    fn crossed(&self, file: &[u8], t: usize) -> usize {
+        let first = 24 + t * self.line + self.w * self.a;
+        if self.switches == 0 {
+            return 0;
+        }
+        let last = first + self.switches - 1;
+        let bytes = &file[first / 8..=last / 8];
+        let before = bytes[0] as u16 >> (8 - first % 8);
+        let behind = bytes[bytes.len() - 1] as u16 & 0xff >> (last % 8 + 1);
+        let all: u32 = bytes.iter().map(|byte| byte.count_ones()).sum();
+        (all - before.count_ones() - behind.count_ones()) as usize
     }
 }
 
@@ -480,6 +495,8 @@ pub struct Contents {
     pub w: usize,
     /// The bits taken from the file behind its header, counted as they were taken.
     pub line_bits: usize,
+    /// The ones among the switch bits of all lines.
+    pub crossed: usize,
 }
 
 pub fn read(file: &[u8], images: &mut [u16], scratch: &[u16]) -> Result<Contents, Refusal> {
@@ -519,6 +536,7 @@ pub fn read(file: &[u8], images: &mut [u16], scratch: &[u16]) -> Result<Contents
         n: dims.n,
         w: dims.w,
         line_bits: take.taken,
+        crossed: (0..dims.c).map(|t| dims.crossed(file, t)).sum(),
     })
 }
 
@@ -561,7 +579,16 @@ pub fn set(width: usize, images: &[u16], values: &mut [u8]) -> Result<usize, Ref
     Ok(count)
 }
 
-pub fn follow(width: usize, values: &[u8], line: usize) -> Result<usize, Refusal> {
+/// What following a line gives.
+#[derive(Clone, Copy, Debug, PartialEq, Eq)]
+pub struct Passage {
+    /// The line on which it leaves.
+    pub line: usize,
+    /// The ones among the values of the network.
+    pub crossed: usize,
+}
+
+pub fn follow(width: usize, values: &[u8], line: usize) -> Result<Passage, Refusal> {
     network_width(width)?;
     let count = switch_count(width);
     if values.len() < count {
@@ -573,7 +600,10 @@ pub fn follow(width: usize, values: &[u8], line: usize) -> Result<usize, Refusal
     if line >= width {
         return refuse(4, line);
     }
-    Ok(walk(width, &values[..count], line))
+    Ok(Passage {
+        line: walk(width, &values[..count], line),
+        crossed: values[..count].iter().filter(|&&value| value == 1).count(),
+    })
 }
 
 fn walk(width: usize, bits: &[u8], line: usize) -> usize {
@@ -592,6 +622,14 @@ fn walk(width: usize, bits: &[u8], line: usize) -> usize {
     2 * inner + (half + crossed) % 2
 }
 
+/// What a step gives beside the words that left.
+#[derive(Clone, Copy, Debug, PartialEq, Eq)]
+pub struct Stepped {
+    pub said: Said,
+    /// The ones among the switch bits of the line that was moved; 0 where none was.
+    pub crossed: usize,
+}
+
 pub fn step(
     file: &[u8],
     clock: &mut Clock,
@@ -599,7 +637,7 @@ pub fn step(
     second: &mut [u16],
     words: &[u16],
     out: &mut [u16],
-) -> Result<Said, Refusal> {
+) -> Result<Stepped, Refusal> {
     let dims = open(file)?;
     let (w, c) = (dims.w, dims.c);
     if first.len() < 2 * dims.n || second.len() < 2 * dims.n || out.len() < w {
@@ -660,7 +698,12 @@ pub fn step(
             fill: (fill + 1).min(2),
         }
     };
-    Ok(said)
+    let crossed = if fill >= 1 {
+        dims.crossed(file, cycle)
+    } else {
+        0
+    };
+    Ok(Stepped { said, crossed })
 }
 
 /// One line of a set as it stands in the file.
@@ -687,4 +730,13 @@ pub fn inspect(file: &[u8]) -> Vec<Inspected> {
             }
         })
         .collect()
+}
+
+/// The ones among the switch bits of all lines, as `inspect` shows them.
+pub fn crossed(file: &[u8]) -> usize {
+    inspect(file)
+        .iter()
+        .flat_map(|line| &line.bits)
+        .filter(|&&bit| bit == 1)
+        .count()
 }

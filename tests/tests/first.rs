@@ -3,7 +3,7 @@
 use rughtena_tests::both::{self, make};
 use rughtena_tests::lent::Lent;
 use rughtena_tests::orders::{all, bit_reversal, every_width, identity, reversal, stride, Random};
-use rughtena_tests::second::{extended, inspect, set_with, Contents, Dims};
+use rughtena_tests::second::{crossed, extended, inspect, set_with, Contents, Dims};
 use rughtena_tests::{generate_scratch, MOST_WIDTH, MOST_WORDS};
 use std::collections::BTreeMap;
 
@@ -265,10 +265,16 @@ fn every_table_is_read() {
                 let n = whole.len();
                 let dims = Dims::new(n, w);
                 let line_bits = dims.c * dims.line;
-                let expected = Ok((Contents { n, w, line_bits }, whole.to_vec()));
                 for table in &tables {
                     if ports_differ(w, &whole, table) {
                         let set = set_with(&whole, w, table);
+                        let contents = Contents {
+                            n,
+                            w,
+                            line_bits,
+                            crossed: crossed(&set),
+                        };
+                        let expected = Ok((contents, whole.to_vec()));
                         assert_eq!(both::read(&set, &images, &scratch), expected);
                         others += (set != first) as usize;
                     }

@@ -2,7 +2,7 @@
 use rughtena_tests::both::make;
 use rughtena_tests::lent::Lent;
 use rughtena_tests::orders::{bit_reversal, every_width, identity, reversal, stride, Random};
-use rughtena_tests::second::{extended, inspect, Contents, Dims};
+use rughtena_tests::second::{crossed, extended, inspect, Contents, Dims};
 use rughtena_tests::{both, generate_scratch, refuse, second, MOST_WIDTH, MOST_WORDS};
 
 /// The set is accepted, reads as the extended order, and has the rule's switch bits and the writes of that order in each line.
@@ -12,10 +12,15 @@ fn is_set_of(w: usize, order: &[u16], set: &[u8], random: &mut Random) {
     let images = Lent::words(random, n);
     let scratch = Lent::words(random, 2 * n);
     let Dims { c, line, v, .. } = Dims::new(n, w);
-    let line_bits = c * line;
+    let contents = Contents {
+        n,
+        w,
+        line_bits: c * line,
+        crossed: crossed(set),
+    };
     assert_eq!(
         both::read(set, &images, &scratch),
-        Ok((Contents { n, w, line_bits }, order.to_vec()))
+        Ok((contents, order.to_vec()))
     );
     for line in inspect(set) {
         let mut ports = identity(v);

@@ -3,7 +3,7 @@ use rughtena::raw::{self, ReadAnswer};
 use rughtena_tests::both::set_of;
 use rughtena_tests::lent::Lent;
 use rughtena_tests::orders::{widths, Random};
-use rughtena_tests::second::{inspect, Contents, Dims};
+use rughtena_tests::second::{crossed, inspect, Contents, Dims};
 use rughtena_tests::{both, refuse, second, Refusal, MOST_WIDTH, MOST_WORDS};
 
 type Answer = Result<(Contents, Vec<u16>), Refusal>;
@@ -24,12 +24,14 @@ fn line_bits(n: usize, w: usize) -> usize {
     c * (2 * w * a + switches)
 }
 
-/// Reading by library and second implementation; `both` holds a refused answer to have no count. An accepted one has the formula's.
+/// Reading by library and second implementation; `both` holds a refused answer to have no counts. An accepted one has the formula's bits, and
+/// the ones that the lines show.
 fn read_lent(file: &[u8], images: &Lent<u16>, scratch: &Lent<u16>) -> Answer {
     let answer = both::read(file, images, scratch);
     if let Ok((contents, _)) = &answer {
         let (n, w) = (contents.n, contents.w);
         assert_eq!(contents.line_bits, line_bits(n, w), "n {n}, w {w}");
+        assert_eq!(contents.crossed, crossed(file), "n {n}, w {w}");
     }
     answer
 }
@@ -51,14 +53,19 @@ fn counts_written_out() {
     let order = vec![3, 7, 1, 2, 6, 0, 11, 9, 4, 10, 8, 5];
     let mut filled = twelve.clone();
     filled[11] = 0xe1;
-    for (file, (n, w, line_bits), images) in [
-        (vec![0x00, 0x08, 0x10], (1, 1, 0), vec![0]),
-        (vec![0x00, 0x10, 0x20, 0x00], (2, 2, 1), vec![0, 1]),
-        (vec![0x00, 0x10, 0x20, 0x80], (2, 2, 1), vec![1, 0]),
-        (twelve, (12, 3, 68), order),
+    for (file, (n, w, line_bits, crossed), images) in [
+        (vec![0x00, 0x08, 0x10], (1, 1, 0, 0), vec![0]),
+        (vec![0x00, 0x10, 0x20, 0x00], (2, 2, 1, 0), vec![0, 1]),
+        (vec![0x00, 0x10, 0x20, 0x80], (2, 2, 1, 1), vec![1, 0]),
+        (twelve, (12, 3, 68, 6), order),
     ] {
-        let expected = Ok((Contents { n, w, line_bits }, images));
-        assert_eq!(read(&file, &mut random), expected);
+        let contents = Contents {
+            n,
+            w,
+            line_bits,
+            crossed,
+        };
+        assert_eq!(read(&file, &mut random), Ok((contents, images)));
     }
     assert_eq!(read(&filled, &mut random), refuse(8, 0));
     refused(&filled, 12, (8, 0), &mut random);
@@ -70,8 +77,9 @@ fn counts_written_out() {
         (4095, 63, 78195),
     ] {
         let file = set_of(n, w, &mut random);
-        let answer = read(&file, &mut random).map(|(contents, _)| contents);
-        assert_eq!(answer, Ok(Contents { n, w, line_bits }));
+        let answer = read(&file, &mut random);
+        let found = answer.map(|(contents, _)| (contents.n, contents.w, contents.line_bits));
+        assert_eq!(found, Ok((n, w, line_bits)));
     }
 }
 
@@ -88,7 +96,7 @@ fn counts_at_every_width() {
     }
 }
 
-/// What C gets where a file is refused: number and place, and no n, w or count. No lent word is altered, guards included.
+/// What C gets where a file is refused: number and place, and no n, w or counts. No lent word is altered, guards included.
 fn refused(file: &[u8], n: usize, (number, place): (usize, usize), random: &mut Random) {
     let mut images = Lent::words(random, n);
     let scratch = Lent::words(random, 2 * n);
@@ -99,6 +107,7 @@ fn refused(file: &[u8], n: usize, (number, place): (usize, usize), random: &mut 
         words: 0,
         width: 0,
         line_bits: 0,
+        crossed: 0,
     };
     assert_eq!(answer, expected);
     images.untouched();
@@ -107,7 +116,7 @@ fn refused(file: &[u8], n: usize, (number, place): (usize, usize), random: &mut 
 
 /// A network that carries a line below w to w or above, as each line is followed.
 fn strays(dims: &Dims, bits: &[u8]) -> bool {
-    (0..dims.w).any(|line| second::follow(dims.v, bits, line).expect("a line") >= dims.w)
+    (0..dims.w).any(|line| second::follow(dims.v, bits, line).expect("a line").line >= dims.w)
 }
 
 /// Each bit of the last line flipped, with all lines before it as they were. In an accepted set a bank has one address left for its last line, so

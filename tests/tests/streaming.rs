@@ -4,7 +4,7 @@ use rughtena as card;
 use rughtena::{Clock, Said};
 use rughtena_tests::orders::{all, every_width, Random};
 use rughtena_tests::plain::Plain;
-use rughtena_tests::second::{extended, Dims};
+use rughtena_tests::second::{crossed, extended, Dims};
 use rughtena_tests::{generate_scratch, MOST_WORDS};
 
 /// Frames that are fed; all but the last two leave.
@@ -27,10 +27,11 @@ fn reads_as(w: usize, order: &[u16], file: &[u8]) {
     assert_eq!((contents.words, contents.width), (n, w));
     let dims = Dims::new(n, w);
     assert_eq!(contents.line_bits, dims.c * dims.line);
+    assert_eq!(contents.crossed, crossed(file));
     assert_eq!(images, order);
 }
 
-/// Both devices are fed the same steps; every seventh step or so is one that is refused.
+/// Both devices are fed the same steps; every seventh step or so is one that is refused. The card counts its crossed switches in all others.
 fn streams(w: usize, order: &[u16], file: &[u8], random: &mut Random) {
     let n = order.len();
     let mut clock = Clock::default();
@@ -38,7 +39,7 @@ fn streams(w: usize, order: &[u16], file: &[u8], random: &mut Random) {
     let mut first = random.words(2 * n + surplus);
     let mut second = random.words(2 * n + 2 - surplus);
     let mut plain = Plain::new(w, order);
-    let mut accepted = 0;
+    let (mut accepted, mut counted) = (0, 0);
     while accepted < FRAMES * (n / w) {
         let out_len = if random.below(14) == 0 {
             random.below(w)
@@ -54,10 +55,16 @@ fn streams(w: usize, order: &[u16], file: &[u8], random: &mut Random) {
         let mut out = random.words(out_len);
         let mut plain_out = out.clone();
         let shown = card::step(file, &mut clock, &mut first, &mut second, &words, &mut out);
-        assert_eq!(shown, plain.step(&words, &mut plain_out));
+        assert_eq!(
+            shown.map(|stepped| stepped.said),
+            plain.step(&words, &mut plain_out)
+        );
         assert_eq!(out, plain_out);
         accepted += shown.is_ok() as usize;
+        counted += shown.map_or(0, |stepped| stepped.crossed);
     }
+    // while the first frame enters, no line is moved
+    assert_eq!(counted, (FRAMES - 1) * crossed(file));
 }
 
 fn whole(w: usize, order: &[u16], random: &mut Random) {
@@ -111,7 +118,7 @@ fn left(w: usize, file: &[u8], frames: &[u16], words: usize) -> Vec<u16> {
     let mut left = Vec::new();
     for entering in frames.chunks_exact(w) {
         let mut out = vec![0; w];
-        let said = card::step(
+        let stepped = card::step(
             file,
             &mut clock,
             &mut first,
@@ -119,7 +126,7 @@ fn left(w: usize, file: &[u8], frames: &[u16], words: usize) -> Vec<u16> {
             entering,
             &mut out,
         );
-        if said == Ok(Said::Wrote) {
+        if stepped.map(|stepped| stepped.said) == Ok(Said::Wrote) {
             left.extend(out);
         }
     }

@@ -3,10 +3,11 @@
 use Prim.Native.Nat.{ℕ, zero, suc, _+_, _*_, _≤_, _<_}
 use mathlib.Core.Path.{_≡_, refl, ap, ap₂, sym, _∙_}
 use native.Mathlib.Nat.{mul-zero, zero-mul, one-mul, mul-add, suc-mul, le-refl, le-step, lt-suc-self, add-le-add, add-zero, add-suc, add-assoc}
+use native.Mathlib.Numerals.{add-one}
 use native.Mathlib.Omega.{arith}
 use native.Mathlib.Decide.{ℕ-discrete}
 use Rattle.laws.specs.Choice.{ifEq}
-use Rattle.laws.specs.Sum.{sum, is}
+use Rattle.laws.specs.Sum.{sum, is, hits}
 use Rattle.laws.proofs.Choices.{ifEq-yes, ifEq-no, ifEq-cases}
 
 -- the indicator at equal numbers
@@ -26,6 +27,10 @@ is-le a b = ifEq-cases (λ (n : ℕ). n ≤ 1) a b 1 0 (λ e. omega arith) (λ n
 -- an indicator that is not 0 tells an equality
 pub is-positive : (a b : ℕ) → 0 < is a b → a ≡ b
 is-positive a b h = elim (ℕ-discrete a b) [ yes e ↦ e | no ne ↦ absurd (omega (arith, is-ne a b ne)) ]
+
+-- of a bit, whether it is 1 is the bit
+pub is-bit : (b : ℕ) → b < 2 → is b 1 ≡ b
+is-bit b l = elim (ℕ-discrete b 1) [ yes e ↦ is-eq b 1 e ∙ sym e | no ne ↦ is-ne b 1 ne ∙ omega arith ]
 
 -- functions that agree below n have the same sum
 pub sum-ext : (n : ℕ) (f g : ℕ → ℕ) → ((k : ℕ) → k < n → f k ≡ g k) → sum n f ≡ sum n g
@@ -95,6 +100,25 @@ sum-pick n i g l =
     λ k q ne. ap (λ (z : ℕ). z * g k) (is-ne i k (λ e. ne (sym e))) ∙ zero-mul (g k) in
     let on : is i i * g i ≡ g i = ap (λ (z : ℕ). z * g i) (is-eq i i refl) ∙ one-mul (g i) in
     omega (arith, sum-change n i (λ k. is i k * g k) (λ k. 0) l off, sum-zero n, on)
+
+-- counting one number more
+pub hits-none : (f : ℕ → ℕ) (y : ℕ) → 0 ≡ hits 0 f y
+unfolding hits sum
+hits-none f y = refl
+
+pub hits-more : (n : ℕ) (f : ℕ → ℕ) (y : ℕ) → hits n f y + is (f n) y ≡ hits (n + 1) f y
+unfolding hits sum
+hits-more n f y = rw add-one refl
+
+-- counting goes by the values below n alone
+pub hits-ext : (n : ℕ) (f g : ℕ → ℕ) (y : ℕ) → ((k : ℕ) → k < n → f k ≡ g k) → hits n f y ≡ hits n g y
+unfolding hits
+hits-ext n f g y h = sum-ext n (λ k. is (f k) y) (λ k. is (g k) y) (λ k l. ap (λ (x : ℕ). is x y) (h k l))
+
+-- no more are counted than there are
+pub hits-few : (n : ℕ) (f : ℕ → ℕ) (y : ℕ) → hits n f y ≤ n
+unfolding hits
+hits-few n f y = omega (arith, sum-le n (λ k. is (f k) y) (λ k. 1) (λ k l. is-le (f k) y), sum-const n 1)
 
 -- a sum that is not 0 has a term that is not 0
 pub sum-positive : (n : ℕ) (f : ℕ → ℕ) → 0 < sum n f → (i : ℕ) × (i < n) × (0 < f i)

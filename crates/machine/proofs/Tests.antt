@@ -2,7 +2,7 @@
 -- only chooses between what follows: whatever is done to all that may follow is done to what does. The line moves before the words leave,
 -- and they are the same after it, since neighbouring frames never meet.
 use Prim.Native.Nat.{ℕ, _*_, _<_, _≤_}
-use mathlib.Core.Path.{_≡_, refl, sym, ap, _∙_}
+use mathlib.Core.Path.{_≡_, refl, sym, ap, ap₂, _∙_}
 use mathlib.Core.Bool.{true, false}
 use mathlib.Core.List.{List}
 use lib.Dec.{leb}
@@ -15,16 +15,18 @@ use Rattle.refusal.specs.declared.Refusal.{Refusal}
 use Rattle.refusal.specs.declared.Refusal.the-variants.{ReadAddress, SpareLine, WriteAddress}
 use Rattle.tables.specs.Terms.{cycles}
 use Rattle.tables.specs.Datapath.{readStrays, carryStrays, writeStrays, strays}
-use Rattle.tables.specs.Format.{openOf}
+use Rattle.tables.specs.Format.{lineCrossings, openOf}
 use Rattle.tables.specs.declared.Opened.{Opened}
 use Rattle.tables.specs.declared.Opened.the-variants.{Set, Refused as Unopened}
 use Rattle.tables.specs.declared.Shape.{Shape}
-use Rattle.machine.specs.Step.{leaving, moving, entering, saysOf, StepOutcome, stepOutcome, accepted, bufferTest, lineTest, clockTest, stepLine, stepOpened, stepOf}
+use Rattle.machine.specs.Step.{leaving, moving, entering, movedCrossings, saysOf, StepOutcome, stepOutcome, accepted, bufferTest, lineTest, clockTest, stepLine, stepOpened, stepOf}
 use Rattle.machine.specs.declared.Clock.{Clock}
 use Rattle.machine.specs.declared.Stepped.{Stepped}
 use Rattle.machine.specs.declared.Stepped.the-variants.{Refused}
 use Rattle.machine.specs.declared.stepping.Tested.{Tested}
 use Rattle.machine.specs.declared.stepping.Tested.the-variants.{Passed, Refused as Turned}
+use Rattle.machine.specs.declared.stepping.Moved.{Moved}
+use Rattle.machine.specs.declared.stepping.Moved.the-variants.{Crossed, Refused as Unmoved}
 use Rattle.machine.specs.inner.Ready.{Room, InRange, LineOutcome, lineOutcome, testOf, moveOf, readyOf}
 use Rattle.machine.proofs.Cases.{buffer-cases, clock-cases, line-cases}
 use Rattle.machine.proofs.NeverMeet.{frames-never-meet}
@@ -36,13 +38,17 @@ module _ (n w : ℕ) (file : List ℕ) (clock : Clock) (first second : List ℕ)
   t = clock .cycle
 
   abbrev turned : Refusal → LineOutcome
-  turned r = lineOutcome (Turned r) second
+  turned r = lineOutcome (Unmoved r) second
+
+  abbrev passed : ℕ → List ℕ → LineOutcome
+  passed crossed = lineOutcome (Crossed crossed)
 
   -- no line moves
-  pub line-stays : clock .fill < 1 → lineOutcome Passed second ≡ moveOf n w file clock first second
-  unfolding moveOf lineTest
+  pub line-stays : clock .fill < 1 → passed 0 second ≡ moveOf n w file clock first second
+  unfolding moveOf movedCrossings lineTest
   line-stays none =
-      ifLt-yes (clock .fill) 1 _ _ _ none (ap (lineOutcome Passed) (ifLt-yes (clock .fill) 1 _ _ _ none refl))
+      ifLt-yes (clock .fill) 1 _ _ _ none
+      (ap₂ passed (ifLt-yes (clock .fill) 1 _ _ _ none refl) (ifLt-yes (clock .fill) 1 _ _ _ none refl))
 
   module _ (some : 1 ≤ clock .fill) where
     pub read-refused : readStrays n w file t ≡ true → turned (ReadAddress t) ≡ moveOf n w file clock first second
@@ -60,12 +66,12 @@ module _ (n w : ℕ) (file : List ℕ) (clock : Clock) (first second : List ℕ)
         write-refused far =
             ifLt-no (clock .fill) 1 _ _ _ some (choose-no _ _ _ _ reads (choose-no _ _ _ _ carries (choose-yes _ _ _ _ far refl)))
 
-        pub line-moves : writeStrays n w file t ≡ false → {moved : List ℕ} → moved ≡ moving n w file clock first w second
-            → lineOutcome Passed moved ≡ moveOf n w file clock first second
-        unfolding moveOf lineTest
-        line-moves writes e =
+        pub line-moves : writeStrays n w file t ≡ false → {crossed : ℕ} {moved : List ℕ} → crossed ≡ lineCrossings n w file t
+            → moved ≡ moving n w file clock first w second → passed crossed moved ≡ moveOf n w file clock first second
+        unfolding moveOf movedCrossings lineTest
+        line-moves writes counted e =
             ifLt-no (clock .fill) 1 _ _ _ some (choose-no _ _ _ _ reads (choose-no _ _ _ _ carries (choose-no _ _ _ _ writes
-            (ap (lineOutcome Passed) (ifLt-no (clock .fill) 1 _ _ _ some e)))))
+            (ap₂ passed (ifLt-no (clock .fill) 1 _ _ _ some counted) (ifLt-no (clock .fill) 1 _ _ _ some e)))))
 
 -- a line that passed is within its bounds
 pub none-stray : (n w : ℕ) (file : List ℕ) (t : ℕ)
@@ -156,27 +162,40 @@ module _ (n w : ℕ) (file : List ℕ) (clock : Clock) (first second words out :
 
   -- what a step leaves, from what its line says and leaves in the second memory
   afterLine : LineOutcome → StepOutcome
-  afterLine (lineOutcome Passed moved) =
+  afterLine (lineOutcome (Crossed crossed) moved) =
       stepOutcome (saysOf n w file clock) (entering (cycles n w) clock words w first) moved
       (ifLt (clock .fill) 2 out (overwrite w (leaving (cycles n w) clock second) out))
-  afterLine (lineOutcome (Turned r) moved) = stepOutcome (Refused r) first moved out
+  afterLine (lineOutcome (Unmoved r) moved) = stepOutcome (Refused r) first moved out
 
-  line-step : (x : Tested) (moved : List ℕ) → lineOutcome x moved ≡ moveOf n w file clock first second
+  line-step : (x : Moved) (moved : List ℕ) → lineOutcome x moved ≡ moveOf n w file clock first second
       → afterLine (lineOutcome x moved) ≡ readyOf n w file clock first second words out
   unfolding moveOf readyOf accepted afterLine
-  line-step x moved e = ap afterLine e ∙ line-carried afterLine (λ r. lineOutcome (Turned r) second) _ n w file clock
+  line-step x moved e = ap afterLine e ∙ line-carried afterLine (λ r. lineOutcome (Unmoved r) second) _ n w file clock
 
-  pub line-refused : (r : Refusal) (moved : List ℕ) → lineOutcome (Turned r) moved ≡ moveOf n w file clock first second
+  pub line-refused : (r : Refusal) (moved : List ℕ) → lineOutcome (Unmoved r) moved ≡ moveOf n w file clock first second
       → stepOutcome (Refused r) first moved out ≡ readyOf n w file clock first second words out
   unfolding afterLine
-  line-refused r = line-step (Turned r)
+  line-refused r = line-step (Unmoved r)
+
+  -- what was counted is the definition's
+  pub line-crossed : (crossed : ℕ) (moved : List ℕ) → lineOutcome (Crossed crossed) moved ≡ moveOf n w file clock first second
+      → crossed ≡ movedCrossings n w file clock
+  unfolding moveOf
+  line-crossed crossed moved = line-cases Known (λ r. lineOutcome (Unmoved r) second) _ (λ r. never r) n w file clock λ line e. cc
+    where
+      Known : LineOutcome → Type 0
+      Known o = lineOutcome (Crossed crossed) moved ≡ o → crossed ≡ movedCrossings n w file clock
+
+      never : (r : Refusal) → Known (lineOutcome (Unmoved r) second)
+      never r e = absurd (zero-not-one cc)
 
   -- the words that leave are the same after the line has moved
-  leaves-same : (moved : List ℕ) → InRange (cycles n w) clock → lineOutcome Passed moved ≡ moveOf n w file clock first second
+  leaves-same : (crossed : ℕ) (moved : List ℕ) → InRange (cycles n w) clock
+      → lineOutcome (Crossed crossed) moved ≡ moveOf n w file clock first second
       → (k : ℕ) → k < w → leaving (cycles n w) clock moved k ≡ leaving (cycles n w) clock second k
   unfolding moveOf
-  leaves-same moved G =
-      line-cases Known (λ r. lineOutcome (Turned r) second) _ (λ r. never r) n w file clock λ line e.
+  leaves-same crossed moved G =
+      line-cases Known (λ r. lineOutcome (Unmoved r) second) _ (λ r. never r) n w file clock λ line e.
       let same : moved ≡ ifLt (clock .fill) 1 second (moving n w file clock first w second) = cc in
       rw same (ifLt-cases Kept (clock .fill) 1 _ _ (λ _ k l. refl)
       (λ some. frames-never-meet n w file clock (G .half) (G .cycle) (line some) .second-order first second))
@@ -185,20 +204,21 @@ module _ (n w : ℕ) (file : List ℕ) (clock : Clock) (first second words out :
       Kept m = (k : ℕ) → k < w → leaving (cycles n w) clock m k ≡ leaving (cycles n w) clock second k
 
       Known : LineOutcome → Type 0
-      Known o = lineOutcome Passed moved ≡ o → Kept moved
+      Known o = lineOutcome (Crossed crossed) moved ≡ o → Kept moved
 
-      never : (r : Refusal) → Known (lineOutcome (Turned r) second)
+      never : (r : Refusal) → Known (lineOutcome (Unmoved r) second)
       never r e = absurd (zero-not-one cc)
 
-  pub line-goes-on : InRange (cycles n w) clock → (moved : List ℕ) → lineOutcome Passed moved ≡ moveOf n w file clock first second
+  pub line-goes-on : InRange (cycles n w) clock → (crossed : ℕ) (moved : List ℕ)
+      → lineOutcome (Crossed crossed) moved ≡ moveOf n w file clock first second
       → {answer : Stepped} {first′ out′ : List ℕ} → answer ≡ saysOf n w file clock → first′ ≡ entering (cycles n w) clock words w first
       → out′ ≡ ifLt (clock .fill) 2 out (overwrite w (leaving (cycles n w) clock moved) out)
       → stepOutcome answer first′ moved out′ ≡ readyOf n w file clock first second words out
   unfolding afterLine
-  line-goes-on G moved e {answer} {first′} {out′} says enters leaves =
+  line-goes-on G crossed moved e {answer} {first′} {out′} says enters leaves =
       let same : overwrite w (leaving (cycles n w) clock moved) out ≡ overwrite w (leaving (cycles n w) clock second) out =
-      overwrite-ext w _ _ out (leaves-same moved G e) in
-      rw (says, enters, leaves, same) (line-step Passed moved e)
+      overwrite-ext w _ _ out (leaves-same crossed moved G e) in
+      rw (says, enters, leaves, same) (line-step (Crossed crossed) moved e)
 
 -- ---- a file that opens, or is refused
 

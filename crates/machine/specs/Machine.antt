@@ -5,6 +5,7 @@ use Rattle.refusal.specs.Replies.{Reply, accepts, refusalReply}
 use Rattle.refusal.specs.Refusals.{numberOf, placeOf}
 use Rattle.machine.specs.Devices.{Said, filling, wrote, refused, seen, Feed, feed, After}
 use Rattle.machine.specs.Step.{StepOutcome, stepOutcome, stepOf}
+use Rattle.machine.specs.declared.Advance.{Advance}
 use Rattle.machine.specs.declared.Clock.{Clock}
 use Rattle.machine.specs.declared.Stepped.{Stepped}
 use Rattle.machine.specs.declared.Stepped.the-variants.{Filling, Wrote, Refused}
@@ -35,8 +36,12 @@ carded (stepOutcome answer first second out) clock = record {
 unfoldable pub machine : List ℕ → Card → Feed → After Card
 machine file card (feed words out) = carded (stepOf file (card .clock) (card .first) (card .second) words out) (card .clock)
 
--- "a step, the next clock, and `filling` or that w words were written": 0 for `filling`, 1 for written words, then the clock
+-- "a step, the next clock, and `filling` or that w words were written": 0 for `filling`, 1 for written words, then document 02's crossed switches,
+-- then the clock
+unfoldable pub advanceValues : Advance → List ℕ
+advanceValues advance = advance .crossed ∷ advance .next .cycle ∷ advance .next .half ∷ advance .next .fill ∷ []
+
 unfoldable pub stepReply : Stepped → Reply
-stepReply (Filling advance) = accepts (0 ∷ advance .next .cycle ∷ advance .next .half ∷ advance .next .fill ∷ [])
-stepReply (Wrote advance) = accepts (1 ∷ advance .next .cycle ∷ advance .next .half ∷ advance .next .fill ∷ [])
+stepReply (Filling advance) = accepts (0 ∷ advanceValues advance)
+stepReply (Wrote advance) = accepts (1 ∷ advanceValues advance)
 stepReply (Refused r) = refusalReply r

@@ -8,7 +8,7 @@ use Rattle.laws.specs.Tabulate.{overwrite}
 use Rattle.refusal.specs.declared.Refusal.{Refusal}
 use Rattle.refusal.specs.declared.Refusal.the-variants.{BufferShort, WordCount, ClockRange, ReadAddress, SpareLine, WriteAddress}
 use Rattle.tables.specs.Terms.{cycles}
-use Rattle.tables.specs.Format.{readAddress, writeAddress, openOf}
+use Rattle.tables.specs.Format.{readAddress, lineCrossings, writeAddress, openOf}
 use Rattle.tables.specs.Datapath.{carriedTo, readStrays, carryStrays, writeStrays}
 use Rattle.tables.specs.declared.Opened.{Opened}
 use Rattle.tables.specs.declared.Opened.the-variants.{Set, Refused as Unopened}
@@ -51,9 +51,13 @@ entering c clock words zero first = first
 entering c clock words (suc b) first =
     set (entering c clock words b first) (spot c (clock .half) b (clock .cycle)) (getD words b 0)
 
--- what an accepted step gives beside the words: the next clock
+-- the crossed switches "for the line it moved (0 when fill is 0)"
+unfoldable pub movedCrossings : ℕ → ℕ → List ℕ → Clock → ℕ
+movedCrossings n w file clock = ifLt (clock .fill) 1 0 (lineCrossings n w file (clock .cycle))
+
+-- what an accepted step gives beside the words: the next clock, and the crossed switches
 unfoldable pub advanceOf : ℕ → ℕ → List ℕ → Clock → Advance
-advanceOf n w file clock = record { next = nextClock (cycles n w) clock }
+advanceOf n w file clock = record { next = nextClock (cycles n w) clock; crossed = movedCrossings n w file clock }
 
 -- what it says: `filling` while fill is below 2, then that w words were written
 unfoldable pub saysOf : ℕ → ℕ → List ℕ → Clock → Stepped

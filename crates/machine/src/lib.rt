@@ -84,6 +84,8 @@ fn grown(fill: usize) -> usize
 // What an accepted step gives beside the words.
 pub struct Advance {
     pub next: Clock,
+    // The crossed switches of the line that moved, 0 where none did.
+    pub crossed: usize,
 }
 
 pub enum Stepped {

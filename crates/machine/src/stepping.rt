@@ -10,7 +10,7 @@ ghost use Rattle.tables.specs.Terms.{cycles};
 ghost use Rattle.tables.specs.Format.{Shaped};
 ghost use Rattle.tables.specs.Datapath.{strays};
 ghost use Rattle.tables.specs.inner.Lines.{Line};
-ghost use Rattle.machine.specs.Step.{spot, leaving, moving, entering, saysOf, stepOutcome, stepOf};
+ghost use Rattle.machine.specs.Step.{spot, leaving, moving, entering, movedCrossings, saysOf, stepOutcome, stepOf};
 ghost use Rattle.machine.specs.inner.Ready.{Room, InRange, lineOutcome, testOf, moveOf, readyOf};
 use crate::Advance;
 use crate::Clock;
@@ -37,6 +37,13 @@ struct Lengths {
 // What a test says.
 enum Tested {
     Passed,
+    Refused(Refusal),
+}
+
+// What the line of a step says.
+enum Moved {
+    // With so many crossed switches, 0 where no line moves.
+    Crossed(usize),
     Refused(Refusal),
 }
 
@@ -111,21 +118,21 @@ fn move_words<'a>(
     }
 }
 
-// The clock's own line, if fill is at least 1: 9, 10 and 11 for its ranges, then its words move.
-fn move_line(file: &[u8], shape: Shape, clock: Clock, first: &[u16], second: &mut [u16]) -> Tested
+// The clock's own line, if fill is at least 1: 9, 10 and 11 for its ranges, then its words move, and its crossed switches are counted.
+fn move_line(file: &[u8], shape: Shape, clock: Clock, first: &[u16], second: &mut [u16]) -> Moved
     requires { ⌜ Shaped shape × InRange (cycles (shape .words) (shape .width)) clock ⌝ }
     requires { ⌜ (2 * shape .words ≤ length (now first)) × (2 * shape .words ≤ length (now second)) ⌝ }
     ensures { λ r. ⌜ lineOutcome r (now (second .exit))
         ≡ moveOf (shape .words) (shape .width) (now (file .entry)) clock (now (first .entry)) (now (second .entry)) ⌝ }
 {
     if clock.fill < 1 {
-        return Tested::Passed;
+        return Moved::Crossed(0);
     }
     let mut setting = [0u8; MOST_SWITCHES];
     let mut reads = [0u16; MOST_WIDTH];
     let mut sources = [0u8; MOST_WIDTH];
     let mut writes = [0u16; MOST_WIDTH];
-    line_at(
+    let line = line_at(
         file,
         shape,
         cursor_at(shape, clock.cycle),
@@ -135,16 +142,16 @@ fn move_line(file: &[u8], shape: Shape, clock: Clock, first: &[u16], second: &mu
         &mut writes,
     );
     if any_from(&reads, shape.width, shape.cycles) {
-        return Tested::Refused(Refusal::ReadAddress(clock.cycle));
+        return Moved::Refused(Refusal::ReadAddress(clock.cycle));
     }
     if spare_used(&sources, shape.width, shape.lines) {
-        return Tested::Refused(Refusal::SpareLine(clock.cycle));
+        return Moved::Refused(Refusal::SpareLine(clock.cycle));
     }
     if any_from(&writes, shape.width, shape.cycles) {
-        return Tested::Refused(Refusal::WriteAddress(clock.cycle));
+        return Moved::Refused(Refusal::WriteAddress(clock.cycle));
     }
     move_words(shape, clock, &reads, &sources, &writes, first, second);
-    Tested::Passed
+    Moved::Crossed(line.crossed)
 }
 
 // The words that leave, if fill is 2: address t of half 1-h of each bank of the second memory.
@@ -183,12 +190,14 @@ fn enter(shape: Shape, clock: Clock, words: &[u16], first: &mut [u16])
 }
 
 // What an accepted step says.
-fn answer(shape: Shape, clock: Clock) -> Stepped
+fn answer(shape: Shape, clock: Clock, crossed: usize) -> Stepped
     requires { ⌜ Shaped shape ⌝ }
-    ensures { λ r. ⌜ ((file : List ℕ) → r ≡ saysOf (shape .words) (shape .width) file clock) ⌝ }
+    ensures { λ r. ⌜ ((file : List ℕ) → crossed ≡ movedCrossings (shape .words) (shape .width) file clock
+        → r ≡ saysOf (shape .words) (shape .width) file clock) ⌝ }
 {
     let advance = Advance {
         next: clock.next(shape.cycles),
+        crossed,
     };
     if 2 <= clock.fill {
         return Stepped::Wrote(advance);
@@ -214,16 +223,17 @@ fn step_ready(
         (now (out .entry)) ⌝ }
 {
     match move_line(file, shape, clock, first, second) {
-        Tested::Refused(refusal) => Stepped::Refused(refusal),
-        Tested::Passed => {
+        Moved::Refused(refusal) => Stepped::Refused(refusal),
+        Moved::Crossed(crossed) => {
             leave(shape, clock, second, out);
             enter(shape, clock, words, first);
-            answer(shape, clock)
+            answer(shape, clock, crossed)
         }
     }
 }
 
-// One step on a set: the next clock, and `filling` or that w words were written to the output memory.
+// One step on a set: the next clock, the crossed switches of the line that moved, and `filling` or that w words were written to the output
+// memory.
 pub fn step(
     file: &[u8],
     clock: Clock,

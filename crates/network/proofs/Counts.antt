@@ -7,6 +7,7 @@ use native.Mathlib.Nat.{two-pow-succ}
 use native.Mathlib.Omega.{arith}
 use native.Mathlib.Decide.{ℕ-discrete}
 use lib.Pow.{pow-pos}
+use Rattle.limits.specs.Limits.{mostSwitches}
 use Rattle.laws.specs.Tabulate.{tabulate}
 use Rattle.network.specs.Network.{bitCount}
 
@@ -29,3 +30,8 @@ bitCount-mono c (suc d) l = elim (ℕ-discrete c (suc d)) [
   | yes e ↦ omega (arith, ap bitCount e)
   | no ne ↦ omega (arith, bitCount-mono c d (omega arith))
 ]
+
+-- the widest network has the most bits
+pub bitCount-few : (d : ℕ) → d ≤ 6 → bitCount d ≤ mostSwitches
+unfolding bitCount
+bitCount-few d l = omega (arith, bitCount-mono d 6 l)

@@ -2,6 +2,7 @@
 -- Half 0 is the upper inner network, half 1 the lower.
 use Prim.Native.Nat.{ℕ, zero, suc, _+_, _*_, _-_, _/_, _%_, _^_}
 use Rattle.laws.specs.Choice.{ifLt, ifEq}
+use Rattle.laws.specs.Sum.{hits}
 
 -- the switch bits of a network 2 ^ d wide (document 01: B): input switches, two inner networks, output switches but the last
 unfoldable pub bitCount : ℕ → ℕ
@@ -43,3 +44,7 @@ leaves zero bits x = x
 leaves (suc e) bits x =
     let h : ℕ = half (inputBit bits) x in
     exit (outputBit e bits) h (leaves e (innerBit e bits h) (x / 2))
+
+-- the crossed switches of a network of 2 ^ d lines whose bit i is `bits i`: "counting bits of 1, so the unswitched last output adds nothing"
+unfoldable pub crossings : ℕ → (ℕ → ℕ) → ℕ
+crossings d bits = hits (bitCount d) bits 1

@@ -109,7 +109,7 @@ routed-one zero bits lines one wide = record { long = refl; moved = λ x l. refl
 routed-one (suc e) bits lines one wide = absurd (omega (arith, two-pow-succ e, pow-pos e))
 
 -- two lines go through the one switch
-two-leaves : (bits : ℕ → ℕ) (x : ℕ) → x < 2 → leaves 1 bits x ≡ (x + bits 0) % 2
+pub two-leaves : (bits : ℕ → ℕ) (x : ℕ) → x < 2 → leaves 1 bits x ≡ (x + bits 0) % 2
 unfolding leaves ifLt
 two-leaves bits zero l = omega arith
 two-leaves bits (suc zero) l = omega arith

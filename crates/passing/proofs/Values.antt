@@ -4,7 +4,8 @@ use mathlib.Core.Path.{_≡_, refl, sym, ap, _∙_}
 use mathlib.Core.List.{List}
 use native.Mathlib.Omega.{arith}
 use lib.ListN.{getD}
-use Rattle.laws.proofs.Choices.{ifLt-yes, ifLt-no}
+use native.Mathlib.Decide.{ℕ-discrete}
+use Rattle.laws.proofs.Choices.{ifLt-yes, ifLt-no, ifLt-cases}
 use Rattle.passing.specs.Calls.{firstBad}
 
 -- the scan of `count` values is at position i
@@ -42,3 +43,16 @@ first-none values zero i h = omega arith
 first-none values (suc k) i h =
     sym (ifLt-no 1 (getD values i 0) (i + suc k) i (firstBad values k (i + 1)) (omega (arith, h i (omega arith) (omega arith)))
     (let e : i + suc k ≡ i + 1 + k = omega arith in e ∙ sym (first-none values k (i + 1) (λ j l m. h j (omega arith) (omega arith)))))
+
+-- where none is found every value is 0 or 1
+pub first-all : (values : List ℕ) (k i : ℕ) → i + k ≤ firstBad values k i → (j : ℕ) → i ≤ j → j < i + k → getD values j 0 < 2
+unfolding firstBad
+first-all values zero i = λ h j l m. absurd (omega arith)
+first-all values (suc k) i = ifLt-cases All 1 (getD values i 0) i (firstBad values k (i + 1)) (λ bad h. absurd (omega arith)) λ good h j l m.
+    elim (ℕ-discrete j i) [
+      | yes e ↦ rw e (omega arith)
+      | no ne ↦ first-all values k (i + 1) (omega arith) j (omega arith) (omega arith)
+    ]
+  where
+    All : ℕ → Type 0
+    All found = i + suc k ≤ found → (j : ℕ) → i ≤ j → j < i + suc k → getD values j 0 < 2

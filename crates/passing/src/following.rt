@@ -7,6 +7,7 @@ ghost use Rattle.network.specs.inner.Sizes.{Sized};
 ghost use Rattle.passing.specs.Calls.{firstBad, followOf};
 use network::bit_count;
 use network::depth_of;
+use network::ones;
 use network::value_at;
 use refusal::Refusal;
 
@@ -14,6 +15,8 @@ use refusal::Refusal;
 pub struct Passage {
     // The line on which it leaves.
     pub line: usize,
+    // The crossed switches of the network.
+    pub crossed: usize,
 }
 
 pub enum Followed {
@@ -55,7 +58,7 @@ fn first_bad(values: &[u8], count: usize) -> usize
     i
 }
 
-// The line on which `line` leaves a network of `width` lines that is set by the first values.
+// The line on which `line` leaves a network of `width` lines that is set by the first values, and how many of these are 1.
 pub fn follow(width: usize, values: &[u8], line: usize) -> Followed
     ensures { λ r. ⌜ r ≡ followOf width (now (values .entry)) line ⌝ }
 {
@@ -75,5 +78,8 @@ pub fn follow(width: usize, values: &[u8], line: usize) -> Followed
         return Followed::Refused(Refusal::OutOfRange(line));
     }
     let leaves_on = walk(width, &values[..count], line);
-    Followed::Line(Passage { line: leaves_on })
+    Followed::Line(Passage {
+        line: leaves_on,
+        crossed: ones(values, count),
+    })
 }

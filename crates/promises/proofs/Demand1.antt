@@ -19,13 +19,14 @@ use Rattle.refusal.specs.declared.Refusal.{Refusal}
 use Rattle.images.specs.Images.{checkOf, orderOf}
 use Rattle.images.specs.declared.Checked.{Checked}
 use Rattle.images.specs.declared.Checked.the-variants.{Permutation, Refused as Unfit}
-use Rattle.network.specs.Network.{bitCount, depthOf, leaves}
+use Rattle.network.specs.Network.{bitCount, depthOf, leaves, crossings}
 use Rattle.network.specs.Setting.{setting}
 use Rattle.setting.specs.Calls.{SetOutcome, setOutcome, settledOf, written, settingOf, settingReply}
 use Rattle.passing.specs.Calls.{firstBad, passageOf, followOf, followedReply}
 use Rattle.passing.specs.declared.following.Followed.{Followed}
 use Rattle.tables.specs.Terms.{cycles, setLineBits, fileLength, padded}
-use Rattle.tables.specs.Header.{headerWords, headerWidth}
+use Rattle.tables.specs.Header.{headerWords}
+use Rattle.tables.specs.Format.{setCrossings}
 use Rattle.reading.specs.Reading.{ReadOutcome, readOutcome, readOf, readingReply}
 use Rattle.tables.specs.Generated.{setOf as generatedSet}
 use Rattle.tables.proofs.SetBits.{length-setOf}
@@ -34,8 +35,8 @@ use Rattle.reading.proofs.Exact.{read-cases}
 use Rattle.generator.specs.Generating.{Generates, generationReply}
 use Rattle.generator.proofs.Checking.{checks-passed, generate-cases}
 use Rattle.generator.specs.declared.Generation.{Generation}
-use Rattle.machine.specs.Step.{leaving, moving, entering, nextClock, advanceOf, saysOf, StepOutcome, stepOutcome, accepted as stepAccepted, stepOf}
-use Rattle.machine.specs.Machine.{clockAfter, stepReply}
+use Rattle.machine.specs.Step.{leaving, moving, entering, nextClock, movedCrossings, advanceOf, saysOf, StepOutcome, stepOutcome, accepted as stepAccepted, stepOf}
+use Rattle.machine.specs.Machine.{clockAfter, advanceValues, stepReply}
 use Rattle.machine.specs.LentClock.{Lent, lent, clocked, lentStep}
 use Rattle.machine.specs.declared.Clock.{Clock}
 use Rattle.machine.specs.declared.Stepped.{Stepped}
@@ -43,12 +44,12 @@ use Rattle.machine.specs.declared.Stepped.the-variants.{Refused as Unstepped}
 use Rattle.machine.proofs.Cases.{Passed, step-cases}
 use Rattle.machine.proofs.Clocks.{clock-after}
 use Rattle.machine.proofs.Effects.{length-entering, entering-other, length-moving, moving-untaken}
-use Rattle.rughtena.specs.Answers.{answerOf, steppedAnswer, clockOf, clockNumbers}
+use Rattle.rughtena.specs.Answers.{stepAnswerOf, steppedAnswer, clockOf, clockNumbers}
 use Rattle.rughtena.specs.Step.{Exported, exported, inNumbers, exportedStep, replyBy}
 use Rattle.rughtena.proofs.Clocks.{clock-kept, clock-put}
 use Rattle.refusal.proofs.Numbers.{number-range}
 use Rattle.rughtena.proofs.Numbers.{reply-refuses}
-use Rattle.promises.specs.Demand1.{Memory, memory, Unaltered, Altered, Ends, refused, accepted, Only, Becomes, Front, Taken, Leaving, saysWritten, nextNumbers, stepMemories, Lending}
+use Rattle.promises.specs.Demand1.{Memory, memory, Unaltered, Altered, Ends, refused, accepted, Only, Becomes, Front, Taken, Leaving, readValues, saysWritten, stepCrossings, nextNumbers, stepMemories, Lending}
 
 -- ---- the shape
 
@@ -102,7 +103,9 @@ module _ (width : ℕ) (images values : List ℕ) where
 
 module _ (width : ℕ) (values : List ℕ) (line : ℕ) where
   abbrev FollowEnds : Followed → Type 0
-  FollowEnds answer = Ends (followedReply answer) (leaves (depthOf width) (λ i. getD values i 0) line ∷ []) []
+  FollowEnds answer =
+      let bits : ℕ → ℕ = λ i. getD values i 0 in
+      Ends (followedReply answer) (leaves (depthOf width) bits line ∷ crossings (depthOf width) bits ∷ []) []
 
   follow-ends : FollowEnds (followOf width values line)
   unfolding followOf followedReply passageOf
@@ -118,15 +121,14 @@ module _ (width : ℕ) (values : List ℕ) (line : ℕ) where
 module _ (file images scratch : List ℕ) where
   abbrev ReadEnds : ReadOutcome → Type 0
   ReadEnds (readOutcome answer images′) =
-      Ends (readingReply answer) (headerWords file ∷ headerWidth file ∷ setLineBits (headerWords file) (headerWidth file) ∷ [])
-      (memory images images′ (Only (Front (headerWords file))) ∷ [])
+      Ends (readingReply answer) (readValues file) (memory images images′ (Only (Front (headerWords file))) ∷ [])
 
   read-ends : ReadEnds (readOf file images scratch)
-  unfolding readingReply
+  unfolding readingReply readValues
   read-ends =
       ⊎-elim (λ r.
       let F = opened-form file (r .4 .opened) in
-      let same = ap₂ (λ (n w : ℕ). accepts (n ∷ w ∷ setLineBits n w ∷ [])) (sym (form-words F)) (sym (form-width F)) in
+      let same = ap₂ (λ (n w : ℕ). accepts (n ∷ w ∷ setLineBits n w ∷ setCrossings n w file ∷ [])) (sym (form-words F)) (sym (form-width F)) in
       let front : Only (Front (r .0)) images (r .2) =
       rw (r .4 .written) (only-overwrite (r .0) (λ i. getD (r .2) i 0) images (r .4 .room)) in
       rw (r .3) (accepted same (rw (form-words F) front, tt))) (λ r. rw (r .1) (turned (r .0) (refl, tt))) (read-cases file images scratch)
@@ -196,17 +198,24 @@ module _ (file : List ℕ) (clock : Clock) (first second words out : List ℕ) w
   unfolding nextNumbers
   next-header T = let F = opened-form file (T .opened) in rw (form-words F, form-width F) refl
 
+  -- the crossed switches, likewise
+  crossed-header : {n w : ℕ} → Passed file clock first second words out n w → movedCrossings n w file clock ≡ stepCrossings file clock
+  unfolding stepCrossings
+  crossed-header T = let F = opened-form file (T .opened) in rw (form-words F, form-width F) refl
+
   accepted-reply : {n w : ℕ} → Passed file clock first second words out n w
-      → stepReply (saysOf n w file clock) ≡ accepts (saysWritten clock ∷ nextNumbers file clock)
-  unfolding stepReply saysOf advanceOf saysWritten clockNumbers
+      → stepReply (saysOf n w file clock) ≡ accepts (saysWritten clock ∷ stepCrossings file clock ∷ nextNumbers file clock)
+  unfolding stepReply advanceValues saysOf advanceOf saysWritten clockNumbers
   accepted-reply {n} {w} T =
-      ifLt-both (λ (a : Stepped) (z : ℕ). stepReply a ≡ accepts (z ∷ clockNumbers (nextClock (cycles n w) clock))) (clock .fill) 2 _ _ _ _
-      (λ _. refl) (λ _. refl)
-      ∙ ap (λ (xs : List ℕ). accepts (saysWritten clock ∷ xs)) (next-header T)
+      let crossed : ℕ = movedCrossings n w file clock in
+      ifLt-both (λ (a : Stepped) (z : ℕ). stepReply a ≡ accepts (z ∷ crossed ∷ clockNumbers (nextClock (cycles n w) clock))) (clock .fill) 2
+      _ _ _ _ (λ _. refl) (λ _. refl)
+      ∙ ap₂ (λ (k : ℕ) (xs : List ℕ). accepts (saysWritten clock ∷ k ∷ xs)) (crossed-header T) (next-header T)
 
   abbrev StepEnds : StepOutcome → Type 0
   StepEnds (stepOutcome answer first′ second′ out′) =
-      Ends (stepReply answer) (saysWritten clock ∷ nextNumbers file clock) (stepMemories file clock first first′ second second′ out out′)
+      Ends (stepReply answer) (saysWritten clock ∷ stepCrossings file clock ∷ nextNumbers file clock)
+      (stepMemories file clock first first′ second second′ out out′)
 
   step-ends : StepEnds (stepOf file clock first second words out)
   unfolding stepReply stepAccepted
@@ -214,7 +223,7 @@ module _ (file : List ℕ) (clock : Clock) (first second words out : List ℕ) w
 
   abbrev LentEnds : Lent → Type 0
   LentEnds (lent answer clock′ first′ second′ out′) =
-      Ends (stepReply answer) (saysWritten clock ∷ nextNumbers file clock)
+      Ends (stepReply answer) (saysWritten clock ∷ stepCrossings file clock ∷ nextNumbers file clock)
       (memory (clockNumbers clock) (clockNumbers clock′) (Becomes (nextNumbers file clock))
       ∷ stepMemories file clock first first′ second second′ out out′)
 
@@ -232,24 +241,28 @@ module _ (file numbers first second words out : List ℕ) (three : length number
 
   abbrev ExportedEnds : Exported → Type 0
   ExportedEnds (exported answer numbers′ first′ second′ out′) =
-      Ends (replyBy (answer .number) (answer .value)) (saysWritten given ∷ [])
+      Ends (replyBy (answer .number) (answer .wrote) (answer .value)) (saysWritten given ∷ stepCrossings file given ∷ [])
       (memory numbers numbers′ (Becomes (nextNumbers file given)) ∷ stepMemories file given first first′ second second′ out out′)
 
   -- what is read from the integers of an accepted step
-  exported-reply : (n w : ℕ)
-      → replyBy (steppedAnswer (saysOf n w file given) .number) (steppedAnswer (saysOf n w file given) .value) ≡ accepts (saysWritten given ∷ [])
-  unfolding steppedAnswer answerOf stepReply saysOf saysWritten replyBy
-  exported-reply n w =
-      ifLt-both (λ (a : Stepped) (z : ℕ). replyBy (steppedAnswer a .number) (steppedAnswer a .value) ≡ accepts (z ∷ [])) (given .fill) 2 _ _ _ _
+  abbrev read-back : Stepped → Reply
+  read-back a = let told = steppedAnswer a in replyBy (told .number) (told .wrote) (told .value)
+
+  exported-reply : {n w : ℕ} → Passed file given first second words out n w
+      → read-back (saysOf n w file given) ≡ accepts (saysWritten given ∷ stepCrossings file given ∷ [])
+  unfolding steppedAnswer stepAnswerOf stepReply advanceValues saysOf advanceOf saysWritten replyBy
+  exported-reply {n} {w} T =
+      ifLt-both (λ (a : Stepped) (z : ℕ). read-back a ≡ accepts (z ∷ movedCrossings n w file given ∷ [])) (given .fill) 2 _ _ _ _
       (λ _. refl) (λ _. refl)
+      ∙ ap (λ (k : ℕ). accepts (saysWritten given ∷ k ∷ [])) (crossed-header file given first second words out T)
 
   step-exported-ends : ExportedEnds (exportedStep file numbers first second words out)
-  unfolding stepReply stepAccepted exportedStep inNumbers lentStep clocked clockAfter steppedAnswer answerOf refusalReply
+  unfolding stepReply stepAccepted exportedStep inNumbers lentStep clocked clockAfter steppedAnswer stepAnswerOf refusalReply
   step-exported-ends =
       by-cases file given first second words out (λ o. ExportedEnds (inNumbers (clocked o given) numbers))
-      (λ r. refused (numberOf r) (placeOf r) (reply-refuses (numberOf r) (placeOf r) (number-range r .0)) (number-range r .0) (number-range r .1)
+      (λ r. refused (numberOf r) (placeOf r) (reply-refuses (numberOf r) 0 (placeOf r) (number-range r .0)) (number-range r .0) (number-range r .1)
       (clock-kept numbers, (refl, (refl, (refl, tt)))))
-      (λ n w T. accepted (exported-reply n w) (
+      (λ n w T. accepted (exported-reply T) (
         clock-put numbers (clockAfter (saysOf n w file given) given) three ∙ ap clockNumbers (clock-after n w file given)
             ∙ next-header file given first second words out T,
         accepted-altered file given first second words out T,

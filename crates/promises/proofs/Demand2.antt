@@ -10,7 +10,7 @@ use Rattle.refusal.specs.Refusals.{numberOf, placeOf}
 use Rattle.refusal.specs.Replies.{accepts, refusalReply}
 use Rattle.images.specs.Images.{orderOf}
 use Rattle.tables.specs.Terms.{setLineBits, fileLength, padded}
-use Rattle.tables.specs.Format.{Form}
+use Rattle.tables.specs.Format.{Form, setCrossings}
 use Rattle.tables.specs.Datapath.{Performs}
 use Rattle.reading.specs.Reading.{ReadOutcome, readOutcome, contentsOf, readAs, readOf, readingReply}
 use Rattle.reading.specs.declared.Contents.{Contents}
@@ -24,16 +24,17 @@ use Rattle.generator.proofs.Checking.{passed-checks, generable-dims, generable-
 use Rattle.promises.specs.Demand2.{told, toldOf, ReadsAs, Refuses, Lent, Exact, Answered, Reading}
 use Rattle.promises.proofs.Demand3.{front}
 
--- a reading that tells n, w and the line bits, and these images, is the one that is accepted so
-told-read : {n w : ℕ} {images : List ℕ} (file : List ℕ) (o : ReadOutcome) → toldOf o ≡ told (accepts (n ∷ w ∷ setLineBits n w ∷ [])) images
-    → o ≡ readAs n w file images
+-- a reading that tells these values and images is the one that is accepted so
+told-read : {n w : ℕ} {images : List ℕ} (file : List ℕ) (o : ReadOutcome)
+    → toldOf o ≡ told (accepts (n ∷ w ∷ setLineBits n w ∷ setCrossings n w file ∷ [])) images → o ≡ readAs n w file images
 unfolding toldOf readingReply refusalReply
 told-read {n} {w} {images} file (readOutcome (Read contents) after) e =
     let words : contents .words ≡ n = cc in
     let width : contents .width ≡ w = cc in
     let bits : contents .«line_bits» ≡ setLineBits n w = cc in
+    let crossed : contents .crossed ≡ setCrossings n w file = cc in
     let given : after ≡ images = cc in
-    let same : contents ≡ contentsOf n w file = λ i. record { words = words i; width = width i; «line_bits» = bits i } in
+    let same : contents ≡ contentsOf n w file = λ i. record { words = words i; width = width i; «line_bits» = bits i; crossed = crossed i } in
     ap₂ (λ (c : Contents) (xs : List ℕ). readOutcome (Read c) xs) same given
 told-read file (readOutcome (Refused r) after) e = absurd (zero-not-one cc)
 
@@ -54,7 +55,7 @@ module _ (file images scratch : List ℕ) where
         r .0,
         r .1,
         p,
-        ap toldOf (r .3) ∙ ap (told (accepts (r .0 ∷ r .1 ∷ setLineBits (r .0) (r .1) ∷ []))) (K .written),
+        ap toldOf (r .3) ∙ ap (told (accepts (r .0 ∷ r .1 ∷ setLineBits (r .0) (r .1) ∷ setCrossings (r .0) (r .1) file ∷ []))) (K .written),
         opened-form file (K .opened),
         (K .room, K .scratch-room),
         K .performs,

@@ -6,19 +6,20 @@ use mathlib.Core.List.{List}
 use lib.ListN.{length}
 use Rattle.laws.specs.Choice.{ifLt, ifLe, ifEq}
 use Rattle.laws.specs.Any.{any}
+use Rattle.laws.specs.Sum.{sum, is, hits}
 use Rattle.laws.specs.Tabulate.{tabulate, overwrite, joined}
 use Rattle.laws.specs.Permutation.{inverse}
 use Rattle.bits.specs.Bits.{digit, bit, field, digits, numberAt, packed}
 use Rattle.refusal.specs.Replies.{refusalReply}
 use Rattle.images.specs.Images.{orderOf, earlier, checkFrom, checkOf}
-use Rattle.network.specs.Network.{bitCount, depthOf, leaves}
+use Rattle.network.specs.Network.{bitCount, depthOf, leaves, crossings}
 use Rattle.network.specs.Setting.{next, rank, least, chosen, setting}
 use Rattle.network.specs.Carried.{carried}
 use Rattle.setting.specs.Calls.{settledOf, written, settingOf, settingReply}
 use Rattle.passing.specs.Calls.{firstBad, passageOf, followOf, followedReply}
 use Rattle.tables.specs.Terms.{limitTest, dimsTest, padded, logFrom, logUp, cycles, addressBits, depth, switchBits, addressRow, lineBits, fileLength}
 use Rattle.tables.specs.Header.{headerOf, headerBits, headerWords, headerWidth, headerZeros}
-use Rattle.tables.specs.Format.{lineAt, readAddress, switchBit, writeAddress, filling, shapeOf, headerTest, lengthTest, openOf}
+use Rattle.tables.specs.Format.{lineAt, readAddress, switchBit, lineCrossings, writeAddress, filling, shapeOf, headerTest, lengthTest, openOf}
 use Rattle.tables.specs.Datapath.{carriedTo, target, readStrays, carryStrays, writeStrays, imageOf}
 use Rattle.tables.specs.Generated.{wordOf, portOf, writeOf, lineOf, setBits, setOf}
 use Rattle.tables.specs.FirstTest.{portAt, barred, tried, finishes, misses, firstTest}
@@ -27,21 +28,22 @@ use Rattle.generator.specs.Generating.{scratchNeed, lentTest, checksOf, Generat
 use Rattle.generator.specs.declared.Generation.{Generation}
 use Rattle.generator.proofs.Checking.{generate-cases}
 use Rattle.machine.specs.Devices.{run}
-use Rattle.machine.specs.Step.{spot, fresh, nextFrame, nextClock, leaving, moving, entering, advanceOf, saysOf, accepted, bufferTest, clockTest, lineTest, stepLine, stepOpened, stepOf}
-use Rattle.machine.specs.Machine.{said, clockAfter, carded, machine, stepReply}
+use Rattle.machine.specs.Step.{spot, fresh, nextFrame, nextClock, leaving, moving, entering, movedCrossings, advanceOf, saysOf, accepted, bufferTest, clockTest, lineTest, stepLine, stepOpened, stepOf}
+use Rattle.machine.specs.Machine.{said, clockAfter, carded, machine, advanceValues, stepReply}
 use Rattle.machine.specs.Plain.{empty, given, took, turned, plain}
+use Rattle.promises.specs.Power.{reported, answerTo, answers}
 use Rattle.promises.specs.Questions.{generationOf, answer}
 use Rattle.promises.specs.Examples.{examples, ExamplesHold}
 
 pub examples-hold : ExamplesHold
-unfolding ifLt ifLe ifEq any tabulate overwrite joined inverse digit bit field digits numberAt packed refusalReply orderOf earlier checkFrom
-    checkOf bitCount depthOf leaves next rank least chosen setting carried settledOf written settingOf settingReply firstBad passageOf followOf
+unfolding ifLt ifLe ifEq any sum is hits tabulate overwrite joined inverse digit bit field digits numberAt packed refusalReply orderOf earlier checkFrom
+    checkOf bitCount depthOf leaves crossings next rank least chosen setting carried settledOf written settingOf settingReply firstBad passageOf followOf
     followedReply limitTest dimsTest padded logFrom logUp cycles addressBits depth switchBits addressRow lineBits fileLength headerOf headerBits
-    headerWords headerWidth headerZeros lineAt readAddress switchBit writeAddress filling shapeOf headerTest lengthTest openOf carriedTo target
+    headerWords headerWidth headerZeros lineAt readAddress switchBit lineCrossings writeAddress filling shapeOf headerTest lengthTest openOf carriedTo target
     readStrays carryStrays writeStrays wordOf portOf writeOf lineOf setBits setOf portAt barred tried finishes misses firstTest readFault
     writeFault scanLines imageOf readLines readOpened readOf readingReply scratchNeed lentTest checksOf generationReply run spot fresh nextFrame
-    nextClock leaving moving entering advanceOf saysOf accepted bufferTest clockTest lineTest stepLine stepOpened stepOf said clockAfter carded
-    machine stepReply empty given took turned plain answer examples
+    nextClock leaving moving entering movedCrossings advanceOf saysOf accepted bufferTest clockTest lineTest stepLine stepOpened stepOf said clockAfter carded
+    machine advanceValues stepReply reported answerTo answers empty given took turned plain answer examples
 examples-hold = refl
 
 -- the answer of generating, by its contract

@@ -6,5 +6,6 @@ pub mod Examples
 pub mod Extended
 pub mod First
 pub mod Scratch
+pub mod Power
 pub mod Rule
 pub mod Plain

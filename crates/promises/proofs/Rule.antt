@@ -16,7 +16,7 @@ use Rattle.images.specs.Images.{checkOf, orderOf}
 use Rattle.images.specs.declared.Checked.{Checked}
 use Rattle.images.specs.declared.Checked.the-variants.{Permutation, Refused as Unfit}
 use Rattle.images.proofs.Exact.{check-permutes}
-use Rattle.network.specs.Network.{bitCount, depthOf, leaves}
+use Rattle.network.specs.Network.{bitCount, depthOf, leaves, crossings}
 use Rattle.network.specs.Rule.{Rule}
 use Rattle.network.specs.Setting.{setting}
 use Rattle.network.specs.Carried.{carried}
@@ -99,7 +99,8 @@ set-tells width images values values′ settled =
 
 pub set-followed : (width : ℕ) (images values values′ : List ℕ) (settled : Settled)
     → settingOf width images values ≡ setOutcome (Written settled) values′
-    → (x : ℕ) → x < width → followOf width values′ x ≡ Line (record { line = orderOf width images x })
+    → (x : ℕ) → x < width → followOf width values′ x
+    ≡ Line (record { line = orderOf width images x; crossed = crossings (depthOf width) (λ i. getD values′ i 0) })
 unfolding followOf passageOf
 set-followed width images values values′ settled h x l =
     let S : Set width images values values′ = set-tells width images values values′ settled h in
@@ -119,7 +120,7 @@ set-followed width images values values′ settled h x l =
     sym (ifLt-no 6 d _ _ _ (S .few)
     (ifLt-no (length values′) B _ _ _ (omega (arith, S .room))
     (ifLt-no (firstBad values′ B 0) B _ _ _ (omega arith)
-    (ifLe-no width x _ _ _ l (ap (λ (k : ℕ). Line (record { line = k })) (sym goes))))))
+    (ifLe-no width x _ _ _ l (ap (λ (k : ℕ). Line (record { line = k; crossed = crossings d (λ i. getD values′ i 0) })) (sym goes))))))
 
 pub by-rule : ByRule
 by-rule = record {

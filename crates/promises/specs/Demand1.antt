@@ -8,26 +8,26 @@ use mathlib.Core.List.{List, [], _∷_}
 use lib.ListN.{length, getD}
 use Rattle.laws.specs.Choice.{ifLt}
 use Rattle.refusal.specs.Replies.{Reply, accepts, refuses}
-use Rattle.network.specs.Network.{bitCount, depthOf, leaves}
+use Rattle.network.specs.Network.{bitCount, depthOf, leaves, crossings}
 use Rattle.setting.specs.Calls.{settingOf, setOutcome, settingReply}
 use Rattle.setting.specs.declared.Setting.{Setting}
 use Rattle.passing.specs.Calls.{followOf, followedReply}
 use Rattle.passing.specs.declared.following.Followed.{Followed}
 use Rattle.tables.specs.Terms.{cycles, setLineBits, fileLength, padded}
 use Rattle.tables.specs.Header.{headerWords, headerWidth}
-use Rattle.tables.specs.Format.{writeAddress}
+use Rattle.tables.specs.Format.{writeAddress, setCrossings}
 use Rattle.reading.specs.Reading.{readOf, readOutcome, readingReply}
 use Rattle.reading.specs.declared.Reading.{Reading}
 use Rattle.generator.specs.Generating.{Generates, generationReply}
 use Rattle.generator.specs.declared.Generation.{Generation}
-use Rattle.machine.specs.Step.{spot, nextClock, stepOf, stepOutcome}
+use Rattle.machine.specs.Step.{spot, nextClock, movedCrossings, stepOf, stepOutcome}
 use Rattle.machine.specs.Machine.{stepReply}
 use Rattle.machine.specs.LentClock.{lent, lentStep}
 use Rattle.machine.specs.declared.Clock.{Clock}
 use Rattle.machine.specs.declared.Stepped.{Stepped}
 use Rattle.rughtena.specs.Answers.{clockOf, clockNumbers}
 use Rattle.rughtena.specs.Step.{exported, exportedStep, replyBy}
-use Rattle.rughtena.specs.declared.Answer.{Answer}
+use Rattle.rughtena.specs.declared.StepAnswer.{StepAnswer}
 
 -- ---- the shape
 
@@ -76,11 +76,23 @@ Taken n w file clock i =
 abbrev pub Leaving : ℕ → Clock → ℕ → Type 0
 Leaving w clock i = (i < w) × (2 ≤ clock .fill)
 
+-- ---- reading a set, whose n and w its header says
+
+unfoldable pub readValues : List ℕ → List ℕ
+readValues file =
+    let n : ℕ = headerWords file in
+    let w : ℕ = headerWidth file in
+    n ∷ w ∷ setLineBits n w ∷ setCrossings n w file ∷ []
+
 -- ---- a step on a set, whose n and w its header says
 
 -- 0 for `filling`, 1 for written words
 unfoldable pub saysWritten : Clock → ℕ
 saysWritten clock = ifLt (clock .fill) 2 0 1
+
+-- the crossed switches of the line that moves, 0 with fill 0
+unfoldable pub stepCrossings : List ℕ → Clock → ℕ
+stepCrossings file clock = movedCrossings (headerWords file) (headerWidth file) file clock
 
 -- the numbers of the next clock
 unfoldable pub nextNumbers : List ℕ → Clock → List ℕ
@@ -101,33 +113,35 @@ pub record Lending : Type 0 where
   pub set : (width : ℕ) (images values : List ℕ) (answer : Setting) (values′ : List ℕ)
       → setOutcome answer values′ ≡ settingOf width images values
       → Ends (settingReply answer) (bitCount (depthOf width) ∷ []) (memory values values′ (Only (Front (bitCount (depthOf width)))) ∷ [])
-  -- following a line: the line on which it leaves; nothing is lent to be written
+  -- following a line: the line on which it leaves, and the crossed switches; nothing is lent to be written
   pub follow : (width : ℕ) (values : List ℕ) (line : ℕ) (answer : Followed) → answer ≡ followOf width values line
-      → Ends (followedReply answer) (leaves (depthOf width) (λ i. getD values i 0) line ∷ []) []
-  -- reading: n, w and the line bits; the first n images
+      → let bits : ℕ → ℕ = λ i. getD values i 0 in
+      Ends (followedReply answer) (leaves (depthOf width) bits line ∷ crossings (depthOf width) bits ∷ []) []
+  -- reading: n, w, the line bits and the crossed switches; the first n images
   pub read : (file images scratch : List ℕ) (answer : Reading) (images′ : List ℕ) → readOutcome answer images′ ≡ readOf file images scratch
-      → Ends (readingReply answer) (headerWords file ∷ headerWidth file ∷ setLineBits (headerWords file) (headerWidth file) ∷ [])
-      (memory images images′ (Only (Front (headerWords file))) ∷ [])
+      → Ends (readingReply answer) (readValues file) (memory images images′ (Only (Front (headerWords file))) ∷ [])
   -- generating: the file's length; as many bytes of the file, and as many scratch words as the padded n, fewer than the 2 for each of its words
   -- and the 256 that are lent
   pub generate : (n w : ℕ) (images file scratch : List ℕ) (answer : Generation) (file′ scratch′ : List ℕ)
       → Generates n w images file scratch answer file′ scratch′
       → Ends (generationReply answer) (fileLength (padded n w) w ∷ [])
       (memory file file′ (Only (Front (fileLength (padded n w) w))) ∷ memory scratch scratch′ (Only (Front (padded n w))) ∷ [])
-  -- a step: whether words were written, and the next clock
+  -- a step: whether words were written, the crossed switches, and the next clock
   pub step : (file : List ℕ) (clock : Clock) (first second words out : List ℕ) (answer : Stepped) (first′ second′ out′ : List ℕ)
       → stepOutcome answer first′ second′ out′ ≡ stepOf file clock first second words out
-      → Ends (stepReply answer) (saysWritten clock ∷ nextNumbers file clock) (stepMemories file clock first first′ second second′ out out′)
+      → Ends (stepReply answer) (saysWritten clock ∷ stepCrossings file clock ∷ nextNumbers file clock)
+      (stepMemories file clock first first′ second second′ out out′)
   -- a step on a lent clock, which becomes the next one
   pub step-lent : (file : List ℕ) (clock : Clock) (first second words out : List ℕ)
       (answer : Stepped) (clock′ : Clock) (first′ second′ out′ : List ℕ)
       → lent answer clock′ first′ second′ out′ ≡ lentStep file clock first second words out
-      → Ends (stepReply answer) (saysWritten clock ∷ nextNumbers file clock)
+      → Ends (stepReply answer) (saysWritten clock ∷ stepCrossings file clock ∷ nextNumbers file clock)
       (memory (clockNumbers clock) (clockNumbers clock′) (Becomes (nextNumbers file clock))
       ∷ stepMemories file clock first first′ second second′ out out′)
   -- the step that C calls, told by its integers; its clock is three lent numbers
-  pub step-exported : (file numbers first second words out : List ℕ) (answer : Answer) (numbers′ first′ second′ out′ : List ℕ)
+  pub step-exported : (file numbers first second words out : List ℕ) (answer : StepAnswer) (numbers′ first′ second′ out′ : List ℕ)
       → length numbers ≡ 3 → exported answer numbers′ first′ second′ out′ ≡ exportedStep file numbers first second words out
-      → Ends (replyBy (answer .number) (answer .value)) (saysWritten (clockOf numbers) ∷ [])
+      → Ends (replyBy (answer .number) (answer .wrote) (answer .value))
+      (saysWritten (clockOf numbers) ∷ stepCrossings file (clockOf numbers) ∷ [])
       (memory numbers numbers′ (Becomes (nextNumbers file (clockOf numbers)))
       ∷ stepMemories file (clockOf numbers) first first′ second second′ out out′)

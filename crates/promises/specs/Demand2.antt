@@ -10,7 +10,7 @@ use Rattle.laws.specs.Tabulate.{overwrite}
 use Rattle.refusal.specs.Replies.{Reply, accepts, refuses}
 use Rattle.images.specs.Images.{orderOf}
 use Rattle.tables.specs.Terms.{setLineBits, fileLength, padded}
-use Rattle.tables.specs.Format.{Form}
+use Rattle.tables.specs.Format.{Form, setCrossings}
 use Rattle.tables.specs.Datapath.{Performs}
 use Rattle.reading.specs.Reading.{ReadOutcome, readOutcome, readingReply}
 use Rattle.generator.specs.Generating.{Generable, Generates}
@@ -28,10 +28,11 @@ pub data Told : Type 0 where
 unfoldable pub toldOf : ReadOutcome → Told
 toldOf (readOutcome answer images) = told (readingReply answer) images
 
--- a file is accepted as n words of width w with the line bits counted, c(2wa + B), and p is written over the first n images
+-- a file is accepted as n words of width w, with the line bits counted, c(2wa + B), and the crossed switches, and p is written over the first n
+-- images
 abbrev pub ReadsAs : Reader → List ℕ → List ℕ → List ℕ → ℕ → ℕ → (ℕ → ℕ) → Type 0
 ReadsAs read file images scratch n w p =
-    toldOf (read file images scratch) ≡ told (accepts (n ∷ w ∷ setLineBits n w ∷ [])) (overwrite n p images)
+    toldOf (read file images scratch) ≡ told (accepts (n ∷ w ∷ setLineBits n w ∷ setCrossings n w file ∷ [])) (overwrite n p images)
 
 -- it is refused, and nothing is written
 abbrev pub Refuses : Reader → List ℕ → List ℕ → List ℕ → Type 0

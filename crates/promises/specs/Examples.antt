@@ -9,7 +9,7 @@ use Rattle.refusal.specs.Replies.{accepts}
 use Rattle.machine.specs.Devices.{Feed, feed, Seen, seen, filling, wrote, refused}
 use Rattle.machine.specs.Step.{fresh}
 use Rattle.machine.specs.declared.Clock.{Clock}
-use Rattle.promises.specs.Questions.{generating, reading, setting, following, stepping, running, reordering, making, readLines, switchLines, writeLines, measuring, counting, says, shows, bytes, lines, long, answer, Example, asks, generatingRefused, readingRefused, settingRefused, followingRefused, steppingRefused}
+use Rattle.promises.specs.Questions.{generating, reading, setting, following, stepping, running, reordering, making, readLines, switchLines, writeLines, measuring, counting, reporting, counts, says, shows, bytes, lines, long, answer, Example, asks, generatingRefused, readingRefused, settingRefused, followingRefused, steppingRefused}
 
 -- ---- the marked examples
 
@@ -75,11 +75,11 @@ marked =
     asks (making 1 1 (0 ∷ []) []) (bytes (0x00 ∷ 0x08 ∷ 0x10 ∷ []))
     ∷ asks (making 2 2 (0 ∷ 1 ∷ []) []) (bytes (0x00 ∷ 0x10 ∷ 0x20 ∷ 0x00 ∷ []))
     ∷ asks (making 2 2 (1 ∷ 0 ∷ []) []) (bytes (0x00 ∷ 0x10 ∷ 0x20 ∷ 0x80 ∷ []))
-    ∷ asks (reading (0x00 ∷ 0x08 ∷ 0x10 ∷ []) (7 ∷ []) 2) (says (accepts (1 ∷ 1 ∷ 0 ∷ [])) (0 ∷ []))
-    ∷ asks (reading (0x00 ∷ 0x10 ∷ 0x20 ∷ 0x00 ∷ []) (7 ∷ 7 ∷ []) 4) (says (accepts (2 ∷ 2 ∷ 1 ∷ [])) (0 ∷ 1 ∷ []))
-    ∷ asks (reading (0x00 ∷ 0x10 ∷ 0x20 ∷ 0x80 ∷ []) (7 ∷ 7 ∷ []) 4) (says (accepts (2 ∷ 2 ∷ 1 ∷ [])) (1 ∷ 0 ∷ []))
+    ∷ asks (reading (0x00 ∷ 0x08 ∷ 0x10 ∷ []) (7 ∷ []) 2) (says (accepts (1 ∷ 1 ∷ 0 ∷ 0 ∷ [])) (0 ∷ []))
+    ∷ asks (reading (0x00 ∷ 0x10 ∷ 0x20 ∷ 0x00 ∷ []) (7 ∷ 7 ∷ []) 4) (says (accepts (2 ∷ 2 ∷ 1 ∷ 0 ∷ [])) (0 ∷ 1 ∷ []))
+    ∷ asks (reading (0x00 ∷ 0x10 ∷ 0x20 ∷ 0x80 ∷ []) (7 ∷ 7 ∷ []) 4) (says (accepts (2 ∷ 2 ∷ 1 ∷ 1 ∷ [])) (1 ∷ 0 ∷ []))
     -- 4: the order of 12 words. The set is accepted, has these lines, and is the one that generating makes
-    ∷ asks (reading set12 (replicate 12 0) 24) (says (accepts (12 ∷ 3 ∷ 68 ∷ [])) order12)
+    ∷ asks (reading set12 (replicate 12 0) 24) (says (accepts (12 ∷ 3 ∷ 68 ∷ 6 ∷ [])) order12)
     ∷ asks (readLines 12 3 set12) (lines reads12)
     ∷ asks (switchLines 12 3 set12) (lines switches12)
     ∷ asks (writeLines 12 3 set12) (lines writes12)
@@ -141,12 +141,12 @@ extensions =
     -- example 11: accepted, with memory for 12 words; the set is read as 12 words in their places
     asks (generating 10 3 straight10 12 280) (says (accepts (12 ∷ [])) [])
     ∷ asks (making 10 3 straight10 ((0 ∷ 0 ∷ 0 ∷ []) ∷ (1 ∷ 1 ∷ 1 ∷ []) ∷ (2 ∷ 2 ∷ 2 ∷ []) ∷ (3 ∷ 3 ∷ 3 ∷ []) ∷ [])) (bytes straight12)
-    ∷ asks (reading straight12 (replicate 12 7) 24) (says (accepts (12 ∷ 3 ∷ 68 ∷ [])) (tabulate 12 (λ i. i)))
+    ∷ asks (reading straight12 (replicate 12 7) 24) (says (accepts (12 ∷ 3 ∷ 68 ∷ 0 ∷ [])) (tabulate 12 (λ i. i)))
     -- sets of one cycle, with a width above n
     ∷ asks (making 2 3 (1 ∷ 0 ∷ []) []) (bytes (0x00 ∷ 0x18 ∷ 0x30 ∷ 0x08 ∷ []))
     ∷ asks (making 1 2 (0 ∷ []) []) (bytes (0x00 ∷ 0x10 ∷ 0x20 ∷ 0x00 ∷ []))
     ∷ asks (making 1 3 (0 ∷ []) []) (bytes (0x00 ∷ 0x18 ∷ 0x30 ∷ 0x00 ∷ []))
-    ∷ asks (reading (0x00 ∷ 0x18 ∷ 0x30 ∷ 0x08 ∷ []) (replicate 3 7) 6) (says (accepts (3 ∷ 3 ∷ 5 ∷ [])) (1 ∷ 0 ∷ 2 ∷ []))
+    ∷ asks (reading (0x00 ∷ 0x18 ∷ 0x30 ∷ 0x08 ∷ []) (replicate 3 7) 6) (says (accepts (3 ∷ 3 ∷ 5 ∷ 1 ∷ [])) (1 ∷ 0 ∷ 2 ∷ []))
     -- 3: the padded n is 4,098, or 4,100; before 12. It is 4,096, 4,095 and 4,096 for the next three, and 4,097 is 1
     ∷ generatingRefused 4096 3 [] 0 0 3 0
     ∷ generatingRefused 4096 5 [] 0 0 3 0
@@ -221,11 +221,11 @@ networks =
     asks (setting 1 (0 ∷ []) []) (says (accepts (0 ∷ [])) [])
     ∷ asks (setting 2 (1 ∷ 0 ∷ []) (7 ∷ 7 ∷ [])) (says (accepts (1 ∷ [])) (1 ∷ 7 ∷ []))
     ∷ asks (setting 4 turn4 (replicate 5 7)) (says (accepts (5 ∷ [])) (1 ∷ 0 ∷ 1 ∷ 0 ∷ 0 ∷ []))
-    ∷ asks (following 1 [] 0) (says (accepts (0 ∷ [])) [])
-    ∷ asks (following 4 (1 ∷ 0 ∷ 1 ∷ 0 ∷ 0 ∷ []) 0) (says (accepts (1 ∷ [])) [])
-    ∷ asks (following 4 (1 ∷ 0 ∷ 1 ∷ 0 ∷ 0 ∷ []) 1) (says (accepts (2 ∷ [])) [])
-    ∷ asks (following 4 (1 ∷ 0 ∷ 1 ∷ 0 ∷ 0 ∷ []) 2) (says (accepts (0 ∷ [])) [])
-    ∷ asks (following 4 (1 ∷ 0 ∷ 1 ∷ 0 ∷ 0 ∷ 9 ∷ []) 3) (says (accepts (3 ∷ [])) [])
+    ∷ asks (following 1 [] 0) (says (accepts (0 ∷ 0 ∷ [])) [])
+    ∷ asks (following 4 (1 ∷ 0 ∷ 1 ∷ 0 ∷ 0 ∷ []) 0) (says (accepts (1 ∷ 2 ∷ [])) [])
+    ∷ asks (following 4 (1 ∷ 0 ∷ 1 ∷ 0 ∷ 0 ∷ []) 1) (says (accepts (2 ∷ 2 ∷ [])) [])
+    ∷ asks (following 4 (1 ∷ 0 ∷ 1 ∷ 0 ∷ 0 ∷ []) 2) (says (accepts (0 ∷ 2 ∷ [])) [])
+    ∷ asks (following 4 (1 ∷ 0 ∷ 1 ∷ 0 ∷ 0 ∷ 9 ∷ []) 3) (says (accepts (3 ∷ 2 ∷ [])) [])
     -- setting, "2, 12, then 4 and 5 by rising i": 2 before 12; 12, before 4, for images and values one short
     ∷ settingRefused 3 [] [] 2 0
     ∷ settingRefused 4 (9 ∷ 1 ∷ 2 ∷ []) (replicate 5 7) 12 0
@@ -256,7 +256,7 @@ set6 x y z = 0x00 ∷ 0x30 ∷ 0x30 ∷ x ∷ y ∷ z ∷ []
 abbrev pub readings : List Example
 readings =
     -- accepted: read and written at 0, 1, 2. Words beyond the need stay
-    asks (reading (set3 0x05 0xA0) (replicate 4 7) 6) (says (accepts (3 ∷ 1 ∷ 12 ∷ [])) (0 ∷ 1 ∷ 2 ∷ 7 ∷ []))
+    asks (reading (set3 0x05 0xA0) (replicate 4 7) 6) (says (accepts (3 ∷ 1 ∷ 12 ∷ 0 ∷ [])) (0 ∷ 1 ∷ 2 ∷ 7 ∷ []))
     -- 6: two bytes; 7: n 0, n 4,097, width 0, width 65, a width that does not divide, each before 6 for the whole
     ∷ readingRefused (0x00 ∷ 0x00 ∷ []) [] 0 6 0
     ∷ readingRefused (0x00 ∷ 0x00 ∷ 0x10 ∷ []) [] 0 7 0
@@ -281,7 +281,7 @@ readings =
     -- an 11 in line 0 before a 9 in line 1
     ∷ readingRefused (set3 0x3D 0xA0) (replicate 3 7) 6 11 0
     -- 10 in line 1, whose network carries line 2 to line 3; with a repeated write address too, still 10; with all three faults, 9
-    ∷ asks (reading (set6 0x00 0x1C 0x1C) (replicate 6 7) 12) (says (accepts (6 ∷ 3 ∷ 22 ∷ [])) (0 ∷ 1 ∷ 2 ∷ 3 ∷ 4 ∷ 5 ∷ []))
+    ∷ asks (reading (set6 0x00 0x1C 0x1C) (replicate 6 7) 12) (says (accepts (6 ∷ 3 ∷ 22 ∷ 0 ∷ [])) (0 ∷ 1 ∷ 2 ∷ 3 ∷ 4 ∷ 5 ∷ []))
     ∷ readingRefused (set6 0x00 0x1D 0x1C) (replicate 6 7) 12 10 1
     ∷ readingRefused (set6 0x00 0x1D 0x0C) (replicate 6 7) 12 10 1
     ∷ readingRefused (set6 0x00 0x0D 0x0C) (replicate 6 7) 12 9 1
@@ -305,9 +305,10 @@ first3 = 10 ∷ 11 ∷ 12 ∷ 13 ∷ 14 ∷ 15 ∷ []
 abbrev pub second3 : List ℕ
 second3 = 20 ∷ 21 ∷ 22 ∷ 23 ∷ 24 ∷ 25 ∷ []
 
--- a step on a set of 3 words at width 1 with all that it needs: accepted with these values, or refused
-abbrev pub stepAccepted : List ℕ → Clock → List ℕ → List ℕ → Example
-stepAccepted file clock values out = asks (stepping file clock first3 second3 (9 ∷ []) (7 ∷ 7 ∷ [])) (says (accepts values) out)
+-- a step on a set of 3 words at width 1, which has no switches, with all that it needs: accepted, with this next clock, or refused
+abbrev pub stepAccepted : List ℕ → Clock → ℕ → List ℕ → List ℕ → Example
+stepAccepted file clock written next out =
+    asks (stepping file clock first3 second3 (9 ∷ []) (7 ∷ 7 ∷ [])) (says (accepts (written ∷ 0 ∷ next)) out)
 
 abbrev pub stepRefused : List ℕ → Clock → ℕ → ℕ → Example
 stepRefused file clock number place = steppingRefused file clock first3 second3 (9 ∷ []) (7 ∷ 7 ∷ []) number place
@@ -320,9 +321,9 @@ wideRefused file size clock number place =
 abbrev pub steps : List Example
 steps =
     -- `filling` (0), with the next clock: within a frame, and at a frame's end. Then w words are written (1): word 22 is at address 2 of half 0
-    stepAccepted (set3 0x05 0xA0) fresh (0 ∷ 1 ∷ 0 ∷ 0 ∷ []) (7 ∷ 7 ∷ [])
-    ∷ stepAccepted (set3 0x05 0xA0) (clockOf 2 0 0) (0 ∷ 0 ∷ 1 ∷ 1 ∷ []) (7 ∷ 7 ∷ [])
-    ∷ stepAccepted (set3 0x05 0xA0) (clockOf 2 1 2) (1 ∷ 0 ∷ 0 ∷ 2 ∷ []) (22 ∷ 7 ∷ [])
+    stepAccepted (set3 0x05 0xA0) fresh 0 (1 ∷ 0 ∷ 0 ∷ []) (7 ∷ 7 ∷ [])
+    ∷ stepAccepted (set3 0x05 0xA0) (clockOf 2 0 0) 0 (0 ∷ 1 ∷ 1 ∷ []) (7 ∷ 7 ∷ [])
+    ∷ stepAccepted (set3 0x05 0xA0) (clockOf 2 1 2) 1 (0 ∷ 0 ∷ 2 ∷ []) (22 ∷ 7 ∷ [])
     -- 6, 7, 6, 8, before 12
     ∷ steppingRefused (0x00 ∷ 0x18 ∷ []) fresh [] [] [] [] 6 0
     ∷ steppingRefused (0x00 ∷ 0x18 ∷ 0x11 ∷ []) fresh [] [] [] [] 7 0
@@ -341,13 +342,13 @@ steps =
     ∷ stepRefused (set3 0x0D 0xA0) (clockOf 1 0 3) 14 0
     -- 9 by range in line 1: not looked at while fill is 0, nor by a step of another line
     ∷ stepRefused (set3 0x0D 0xA0) (clockOf 1 0 1) 9 1
-    ∷ stepAccepted (set3 0x0D 0xA0) (clockOf 1 0 0) (0 ∷ 2 ∷ 0 ∷ 0 ∷ []) (7 ∷ 7 ∷ [])
-    ∷ stepAccepted (set3 0x0D 0xA0) (clockOf 2 0 1) (0 ∷ 0 ∷ 1 ∷ 2 ∷ []) (7 ∷ 7 ∷ [])
+    ∷ stepAccepted (set3 0x0D 0xA0) (clockOf 1 0 0) 0 (2 ∷ 0 ∷ 0 ∷ []) (7 ∷ 7 ∷ [])
+    ∷ stepAccepted (set3 0x0D 0xA0) (clockOf 2 0 1) 0 (0 ∷ 1 ∷ 2 ∷ []) (7 ∷ 7 ∷ [])
     -- 11 by range in line 2
     ∷ stepRefused (set3 0x05 0xB0) (clockOf 2 0 1) 11 2
     -- repeated addresses, read in line 1 and written in line 2, are not looked for
-    ∷ stepAccepted (set3 0x01 0xA0) (clockOf 1 0 1) (0 ∷ 2 ∷ 0 ∷ 1 ∷ []) (7 ∷ 7 ∷ [])
-    ∷ stepAccepted (set3 0x05 0x80) (clockOf 2 0 1) (0 ∷ 0 ∷ 1 ∷ 2 ∷ []) (7 ∷ 7 ∷ [])
+    ∷ stepAccepted (set3 0x01 0xA0) (clockOf 1 0 1) 0 (2 ∷ 0 ∷ 1 ∷ []) (7 ∷ 7 ∷ [])
+    ∷ stepAccepted (set3 0x05 0x80) (clockOf 2 0 1) 0 (0 ∷ 1 ∷ 2 ∷ []) (7 ∷ 7 ∷ [])
     -- 10 in line 1, and with two repeated addresses too
     ∷ wideRefused (set6 0x00 0x1D 0x1C) 12 (clockOf 1 0 1) 10 1
     ∷ wideRefused (set6 0x00 0x0D 0x0C) 12 (clockOf 1 0 1) 10 1
@@ -356,10 +357,43 @@ steps =
     ∷ wideRefused (0x00 ∷ 0x48 ∷ 0x30 ∷ 0x00 ∷ 0x00 ∷ 0x2A ∷ 0x8D ∷ 0x6A ∷ 0x05 ∷ 0x40 ∷ []) 18 (clockOf 1 0 1) 10 1
     ∷ []
 
+-- ---- the crossed switches (document 02, #108)
+
+-- set12 with other switch bits in line 0, which perform the same order
+abbrev pub other12 : List ℕ
+other12 = 0x00 ∷ 0x60 ∷ 0x30 ∷ 0x0E ∷ 0x2C ∷ 0xA8 ∷ 0x58 ∷ 0x2A ∷ 0x2E ∷ 0xFE ∷ 0xD0 ∷ 0xE0 ∷ []
+
+-- a step, with this fill, of a line that reads what the line before it has read, and that has two crossed switches
+abbrev pub repeatStep : ℕ → List ℕ → Example
+repeatStep fill values =
+    let memory : List ℕ = replicate 12 0 in
+    asks (stepping (set6 0x00 0x00 0xA0) (clockOf 1 0 fill) memory memory (replicate 3 9) (replicate 3 7)) (says (accepts values) (replicate 3 7))
+
+abbrev pub powers : List Example
+powers =
+    -- following, the whole network: the switches that the line does not pass count too, a value behind the five does not
+    asks (following 4 (1 ∷ 0 ∷ 1 ∷ 1 ∷ 1 ∷ 1 ∷ []) 2) (says (accepts (1 ∷ 4 ∷ [])) [])
+    ∷ asks (following 4 (1 ∷ 0 ∷ 1 ∷ 1 ∷ 1 ∷ 9 ∷ []) 2) (says (accepts (1 ∷ 4 ∷ [])) [])
+    ∷ asks (following 2 (1 ∷ []) 0) (says (accepts (1 ∷ 1 ∷ [])) [])
+    ∷ asks (following 8 (replicate 17 1) 0) (says (accepts (7 ∷ 17 ∷ [])) [])
+    ∷ asks (following 64 (replicate 321 1) 0) (says (accepts (63 ∷ 321 ∷ [])) [])
+    ∷ followingRefused 4 (0 ∷ 0 ∷ 2 ∷ 0 ∷ 0 ∷ []) 9 15 2
+    ∷ followingRefused 4 (0 ∷ 0 ∷ 1 ∷ 0 ∷ 0 ∷ []) 4 4 4
+    -- reading: the same order with other switch bits
+    ∷ asks (reading other12 (replicate 12 0) 24) (says (accepts (12 ∷ 3 ∷ 68 ∷ 8 ∷ [])) order12)
+    -- twelve steps on set12: none with fill 0, then those of the four lines, with fill 1 and with fill 2. A refused step reports none
+    ∷ asks (reporting set12 24 (replicate 12 (enters 1 2 3))) (counts (0 ∷ 0 ∷ 0 ∷ 0 ∷ 0 ∷ 2 ∷ 2 ∷ 2 ∷ 0 ∷ 2 ∷ 2 ∷ 2 ∷ []))
+    ∷ asks (reporting set12 24 steps12) (counts (0 ∷ 0 ∷ 0 ∷ 0 ∷ 0 ∷ 0 ∷ 0 ∷ 2 ∷ 2 ∷ 2 ∷ 0 ∷ []))
+    -- a step reports those of its line in a set that reading refuses; with fill 0 it reports none
+    ∷ readingRefused (set6 0x00 0x00 0xA0) (replicate 6 7) 12 9 1
+    ∷ repeatStep 1 (0 ∷ 2 ∷ 0 ∷ 1 ∷ 2 ∷ [])
+    ∷ repeatStep 0 (0 ∷ 0 ∷ 0 ∷ 1 ∷ 1 ∷ [])
+    ∷ []
+
 -- ---- all of them
 
 unfoldable pub examples : List Example
-examples = marked ++ (generatings ++ (extensions ++ (scratches ++ (firsts ++ (networks ++ (readings ++ steps))))))
+examples = marked ++ (generatings ++ (extensions ++ (scratches ++ (firsts ++ (networks ++ (readings ++ (steps ++ powers)))))))
 
 -- each question, computed, has the answer listed
 abbrev pub ExamplesHold : Type 0

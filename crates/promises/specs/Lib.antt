@@ -5,6 +5,7 @@ pub mod Demand3
 pub mod Extended
 pub mod First
 pub mod Scratch
+pub mod Power
 pub mod Rule
 pub mod Plain
 pub mod Questions

@@ -1,7 +1,7 @@
 -- What can be asked of the definitions that the contracts of the calls cite, and how each question is computed from them. The examples are
 -- questions with the answers that they have to get.
 use Prim.Native.Nat.{ℕ}
-use mathlib.Core.List.{List, []}
+use mathlib.Core.List.{List, [], map}
 use lib.ListN.{getD, replicate}
 use Rattle.laws.specs.Choice.{choose}
 use Rattle.laws.specs.Tabulate.{tabulate}
@@ -21,9 +21,10 @@ use Rattle.generator.specs.declared.Generation.{Generation}
 use Rattle.generator.specs.declared.Generation.the-variants.{Written as Made, Refused as Unmade}
 use Rattle.machine.specs.Devices.{Feed, Seen, run}
 use Rattle.machine.specs.Step.{fresh, StepOutcome, stepOutcome, stepOf}
-use Rattle.machine.specs.Machine.{machine, stepReply}
+use Rattle.machine.specs.Machine.{Card, machine, stepReply}
 use Rattle.machine.specs.Plain.{plain, empty}
 use Rattle.machine.specs.declared.Clock.{Clock}
+use Rattle.promises.specs.Power.{reported, answers}
 
 pub data Question : Type 0 where
   -- generating for n, w and images, with so many bytes for the file and so many scratch words
@@ -50,6 +51,8 @@ pub data Question : Type 0 where
   -- the length of a set of n words and width w, and its line bits
   measuring : ℕ → ℕ → Question
   counting : ℕ → ℕ → Question
+  -- the crossed switches that each step of a list reports: on a file, from a fresh clock, with two memories of so many zero words
+  reporting : List ℕ → ℕ → List Feed → Question
 
 pub data Answer : Type 0 where
   -- a call's reply, and afterwards the list that it writes: the images, the values or the output memory (none in generating and following)
@@ -60,6 +63,8 @@ pub data Answer : Type 0 where
   bytes : List ℕ → Answer
   lines : List (List ℕ) → Answer
   long : ℕ → Answer
+  -- the crossed switches of each step
+  counts : List ℕ → Answer
 
 -- what generating answers once its tests are done: `Generates` says so of the call (`generation-answers`)
 abbrev pub generationOf : Checked → ℕ → ℕ → Generation
@@ -83,14 +88,17 @@ listed reads t b = getD (getD reads t []) b 0
 abbrev pub madeOf : ℕ → ℕ → (ℕ → ℕ) → (ℕ → ℕ → ℕ) → List ℕ
 madeOf n w p reads = choose (firstTest n w p reads) (setOf n w p reads) []
 
+-- a card before its first step, with memories of so many zero words
+abbrev pub zeroCard : ℕ → Card
+zeroCard size = record { clock = fresh; first = replicate size 0; second = replicate size 0 }
+
 unfoldable pub answer : Question → Answer
 answer (generating n w images room scratch) = says (generationReply (generationOf (checksOf n w images room scratch) n w)) []
 answer (reading file images scratch) = readSays (readOf file images (replicate scratch 0))
 answer (setting width images values) = setSays (settingOf width images values)
 answer (following width values line) = says (followedReply (followOf width values line)) []
 answer (stepping file clock first second words out) = stepSays (stepOf file clock first second words out)
-answer (running file size steps) =
-    shows (run (machine file) (record { clock = fresh; first = replicate size 0; second = replicate size 0 }) steps)
+answer (running file size steps) = shows (run (machine file) (zeroCard size) steps)
 answer (reordering n w images steps) = shows (run (plain (padded n w) w (orderOf n images)) empty steps)
 answer (making n w images reads) = bytes (madeOf (padded n w) w (orderOf n images) (listed reads))
 answer (readLines n w file) = lines (tabulate (cycles n w) (λ t. tabulate w (readAddress n w file t)))
@@ -98,6 +106,7 @@ answer (switchLines n w file) = lines (tabulate (cycles n w) (λ t. tabulate (sw
 answer (writeLines n w file) = lines (tabulate (cycles n w) (λ t. tabulate w (writeAddress n w file t)))
 answer (measuring n w) = long (fileLength n w)
 answer (counting n w) = long (setLineBits n w)
+answer (reporting file size steps) = counts (map reported (answers file (zeroCard size) steps))
 
 pub record Example : Type 0 where
   pub question : Question

@@ -8,7 +8,7 @@ use lib.ListN.{length, getD, take}
 use Rattle.laws.specs.Tabulate.{tabulate}
 use Rattle.laws.specs.Permutation.{Permutes}
 use Rattle.images.specs.Images.{orderOf}
-use Rattle.network.specs.Network.{bitCount}
+use Rattle.network.specs.Network.{bitCount, depthOf, crossings}
 use Rattle.network.specs.Rule.{Rule}
 use Rattle.network.specs.Keeps.{Keeps}
 use Rattle.network.specs.Setting.{setting}
@@ -48,10 +48,11 @@ GeneratedByRule = (n w : ℕ) (images file scratch : List ℕ) (answer : Generat
 
 pub record ByRule : Type 0 where
   pub generated : GeneratedByRule
-  -- what an accepted call of `set` writes sends each line, followed by `follow`, to its image
+  -- what an accepted call of `set` writes sends each line, followed by `follow`, to its image; the crossed switches are those of what was written
   pub followed : (width : ℕ) (images values values′ : List ℕ) (settled : Settled)
       → settingOf width images values ≡ setOutcome (Written settled) values′
-      → (x : ℕ) → x < width → followOf width values′ x ≡ Line (record { line = orderOf width images x })
+      → (x : ℕ) → x < width → followOf width values′ x
+      ≡ Line (record { line = orderOf width images x; crossed = crossings (depthOf width) (λ i. getD values′ i 0) })
   -- "this makes the setting unique": any bits of 0 and 1 that perform p and keep the rule's words are the setting
   pub only : (d : ℕ) (p bits : ℕ → ℕ) → Keeps d p bits → tabulate (bitCount d) bits ≡ setting d p
   -- and the setting is such

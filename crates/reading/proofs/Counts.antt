@@ -1,7 +1,7 @@
 -- The one pass over a set: the cursor that is carried on from line to line stands where the next line starts, and has counted the bits of the
 -- lines before it. Behind the last line it has counted all line bits.
 use Prim.Native.Nat.{ℕ, _+_, _*_, _<_}
-use mathlib.Core.Path.{_≡_, sym, ap, _∙_}
+use mathlib.Core.Path.{_≡_, sym, ap, ap₂, _∙_}
 use mathlib.Core.List.{List}
 use native.Mathlib.Nat.{zero-add, zero-mul, suc-mul}
 use native.Mathlib.Numerals.{add-one}
@@ -11,9 +11,10 @@ use Rattle.bits.specs.declared.reader.Cursor.{Cursor}
 use Rattle.bits.proofs.OnePass.{onward-none, onward-onward}
 use Rattle.tables.specs.Terms.{Dims, cycles, lineBits, setLineBits}
 use Rattle.tables.specs.Format.{lineAt, cursorAt}
+use Rattle.tables.specs.declared.Pass.{Pass}
 use Rattle.tables.proofs.Cursors.{line-room}
 use Rattle.reading.specs.Reading.{contentsOf}
-use Rattle.reading.specs.inner.Gathering.{behindLines}
+use Rattle.reading.specs.inner.Gathering.{behindLines, Passes}
 
 module _ (n w : ℕ) where
   pub behind-stands : (t : ℕ) → behindLines n w t .at ≡ lineAt n w t
@@ -29,13 +30,15 @@ module _ (n w : ℕ) where
       onward-onward (cursorAt n w 0) (t * lineBits n w) (lineBits n w)
       ∙ ap (onward (cursorAt n w 0)) (rw add-one (sym (suc-mul t (lineBits n w))))
 
-  -- the count of an accepted reading, and what it returns
+  -- the line bits of an accepted reading, and what it returns
   pub behind-all : behindLines n w (cycles n w) .handed ≡ setLineBits n w
   behind-all = zero-add (setLineBits n w)
 
-  pub counted : (file : List ℕ) {cursor : Cursor} → cursor ≡ behindLines n w (cycles n w)
-      → record { words = n; width = w; «line_bits» = cursor .handed } ≡ contentsOf n w file
-  counted file e = ap (λ (bits : ℕ). record { words = n; width = w; «line_bits» = bits }) (ap (λ (x : Cursor). x .handed) e ∙ behind-all)
+  pub counted : (file : List ℕ) {pass : Pass} → Passes n w file pass
+      → record { words = n; width = w; «line_bits» = pass .cursor .handed; crossed = pass .crossed } ≡ contentsOf n w file
+  counted file P =
+      ap₂ (λ (bits crossed : ℕ). record { words = n; width = w; «line_bits» = bits; crossed = crossed })
+      (ap (λ (x : Cursor). x .handed) (P .behind) ∙ behind-all) (P .counted)
 
 -- far from any overflow
 pub behind-room : {n w : ℕ} → Dims n w → (t : ℕ) → t < cycles n w → Room (behindLines n w t) (lineBits n w)

@@ -11,7 +11,7 @@ use Rattle.laws.specs.Tabulate.{overwrite}
 use Rattle.refusal.specs.declared.Refusal.{Refusal}
 use Rattle.refusal.specs.declared.Refusal.the-variants.{ReadAddress, SpareLine, WriteAddress, BufferShort}
 use Rattle.tables.specs.Terms.{cycles, setLineBits}
-use Rattle.tables.specs.Format.{readAddress, writeAddress, openOf}
+use Rattle.tables.specs.Format.{readAddress, setCrossings, writeAddress, openOf}
 use Rattle.tables.specs.Datapath.{carryStrays, imageOf}
 use Rattle.tables.specs.declared.Opened.{Opened}
 use Rattle.tables.specs.declared.Opened.the-variants.{Set, Refused}
@@ -35,9 +35,10 @@ writeFault n w file t k =
 pub data ReadOutcome : Type 0 where
   readOutcome : Reading → List ℕ → ReadOutcome
 
--- what an accepted reading returns beside the written images: n, w and the line bits, which are counted as they are handed out
+-- what an accepted reading returns beside the written images: n, w, the line bits, which are counted as they are handed out, and the crossed
+-- switches of all lines
 abbrev pub contentsOf : ℕ → ℕ → List ℕ → Contents
-contentsOf n w file = record { words = n; width = w; «line_bits» = setLineBits n w }
+contentsOf n w file = record { words = n; width = w; «line_bits» = setLineBits n w; crossed = setCrossings n w file }
 
 abbrev pub readAs : ℕ → ℕ → List ℕ → List ℕ → ReadOutcome
 readAs n w file images = readOutcome (Read (contentsOf n w file)) images
@@ -65,7 +66,7 @@ readOpened (Refused r) file images scratch = readOutcome (Unread r) images
 unfoldable pub readOf : List ℕ → List ℕ → List ℕ → ReadOutcome
 readOf file images scratch = readOpened (openOf file) file images scratch
 
--- "reading, n and w beside the written P", and document 02's "an accepted reading returns that count beside n and w"
+-- "reading, n and w beside the written P", and document 02's count of the line bits and of the crossed switches
 unfoldable pub readingReply : Reading → Reply
-readingReply (Read contents) = accepts (contents .words ∷ contents .width ∷ contents .«line_bits» ∷ [])
+readingReply (Read contents) = accepts (contents .words ∷ contents .width ∷ contents .«line_bits» ∷ contents .crossed ∷ [])
 readingReply (Unread r) = refusalReply r

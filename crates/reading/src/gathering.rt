@@ -13,16 +13,16 @@ ghost use Rattle.tables.specs.inner.Lines.{Line};
 ghost use Rattle.reading.specs.Reading.{contentsOf, readOutcome, readLines, readOf};
 ghost use Rattle.reading.specs.declared.Contents.{Contents};
 ghost use Rattle.reading.specs.declared.Reading.the-variants.{Read};
-ghost use Rattle.reading.specs.inner.Gathering.{faulty, behindLines, Gather, Gathers, GathersAll, Markable, Marked};
+ghost use Rattle.reading.specs.inner.Gathering.{faulty, Gather, Gathers, Passes, GathersAll, Markable, Marked};
 use crate::Contents;
 use crate::Reading;
-use bits::Cursor;
 use limits::MOST_SWITCHES;
 use limits::MOST_WIDTH;
 use limits::MOST_WORDS;
 use limits::NO_WORD;
 use refusal::Refusal;
 use tables::Opened;
+use tables::Pass;
 use tables::Shape;
 use tables::cursor_at;
 use tables::line_at;
@@ -35,9 +35,9 @@ enum Tested {
     Refused(Refusal),
 }
 
-// What they say of all lines, with the cursor behind them.
+// What they say of all lines, with what the pass over these leaves beside the marks.
 enum Gathered {
-    All(Cursor),
+    All(Pass),
     Refused(Refusal),
 }
 
@@ -128,9 +128,10 @@ fn gather(file: &[u8], shape: Shape, places: &mut [u16], words: &mut [u16]) -> G
     let mut standing = [0u8; MOST_WIDTH];
     let mut writes = [0u16; MOST_WIDTH];
     let mut cursor = cursor_at(shape, 0);
+    let mut crossed = 0;
     let mut t = 0;
     while t < cycles {
-        cursor = line_at(
+        let line = line_at(
             file,
             shape,
             cursor,
@@ -143,9 +144,11 @@ fn gather(file: &[u8], shape: Shape, places: &mut [u16], words: &mut [u16]) -> G
         if let Tested::Refused(refusal) = tested {
             return Gathered::Refused(refusal);
         }
+        cursor = line.cursor;
+        crossed += line.crossed;
         t += 1;
     }
-    Gathered::All(cursor)
+    Gathered::All(Pass { cursor, crossed })
 }
 
 // The first n images become the places.
@@ -160,15 +163,15 @@ fn write_images(places: &[u16], images: &mut [u16], n: usize)
     }
 }
 
-// What an accepted reading returns, from the cursor behind the last line.
-fn contents_of(shape: Shape, cursor: Cursor) -> Contents
-    requires { ⌜ cursor ≡ behindLines (shape .words) (shape .width) (cycles (shape .words) (shape .width)) ⌝ }
-    ensures { λ r. ⌜ ((file : List ℕ) → r ≡ contentsOf (shape .words) (shape .width) file) ⌝ }
+// What an accepted reading returns, from what the pass over all lines left. It says the same of every file that the pass was over.
+fn contents_of(shape: Shape, pass: Pass) -> Contents
+    ensures { λ r. ⌜ ((file : List ℕ) → Passes (shape .words) (shape .width) file pass → r ≡ contentsOf (shape .words) (shape .width) file) ⌝ }
 {
     Contents {
         words: shape.words,
         width: shape.width,
-        line_bits: cursor.handed,
+        line_bits: pass.cursor.handed,
+        crossed: pass.crossed,
     }
 }
 
@@ -189,14 +192,14 @@ fn read_set(file: &[u8], shape: Shape, images: &mut [u16], scratch: &[u16]) -> R
     let mut word_of = [NO_WORD; MOST_WORDS];
     match gather(file, shape, &mut place_of, &mut word_of) {
         Gathered::Refused(refusal) => Reading::Refused(refusal),
-        Gathered::All(cursor) => {
+        Gathered::All(pass) => {
             write_images(&place_of, images, words);
-            Reading::Read(contents_of(shape, cursor))
+            Reading::Read(contents_of(shape, pass))
         }
     }
 }
 
-// Reads a set: n, w and the line bits, and the permutation that it performs in the first n images. Scratch is lent and not written.
+// Reads a set: what it contains, and the permutation that it performs in the first n images. Scratch is lent and not written.
 pub fn read(file: &[u8], images: &mut [u16], scratch: &[u16]) -> Reading
     ensures { λ r. ⌜ readOutcome r (now (images .exit)) ≡ readOf (now (file .entry)) (now (images .entry)) (now (scratch .entry)) ⌝ }
 {
@@ -206,8 +209,8 @@ pub fn read(file: &[u8], images: &mut [u16], scratch: &[u16]) -> Reading
     }
 }
 
-// Reads a set: n, w and the line bits, and the word that leaves at each place below n. It answers as reading with memory enough, and the words are the
-// inverse of the images that reading writes. Only our own crates call it, with an array that holds no marks.
+// Reads a set: what it contains, and the word that leaves at each place below n. It answers as reading with memory enough, and the words are
+// the inverse of the images that reading writes. Only our own crates call it, with an array that holds no marks.
 pub fn read_leavers(file: &[u8], leavers: &mut [u16]) -> Reading
     requires { ⌜ now leavers ≡ replicate mostWords noWord ⌝ }
     ensures { λ r. ⌜ ((images scratch : List ℕ) → mostWords ≤ length images → 2 * mostWords ≤ length scratch
@@ -221,7 +224,7 @@ pub fn read_leavers(file: &[u8], leavers: &mut [u16]) -> Reading
             let mut place_of = [NO_WORD; MOST_WORDS];
             match gather(file, shape, &mut place_of, leavers) {
                 Gathered::Refused(refusal) => Reading::Refused(refusal),
-                Gathered::All(cursor) => Reading::Read(contents_of(shape, cursor)),
+                Gathered::All(pass) => Reading::Read(contents_of(shape, pass)),
             }
         }
     }

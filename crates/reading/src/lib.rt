@@ -13,6 +13,8 @@ pub struct Contents {
     pub width: usize,
     // The line bits that were handed out.
     pub line_bits: usize,
+    // The crossed switches of all lines.
+    pub crossed: usize,
 }
 
 pub enum Reading {

@@ -12,19 +12,19 @@ use Rattle.machine.specs.declared.Stepped.{Stepped}
 use Rattle.machine.proofs.Runs.{Agree, simulate}
 use Rattle.rughtena.specs.Answers.{clockOf, putClock, steppedAnswer}
 use Rattle.rughtena.specs.Step.{exported, inNumbers, exportedStep, Board, boarded, exportedMachine}
-use Rattle.rughtena.specs.declared.Answer.{Answer}
+use Rattle.rughtena.specs.declared.StepAnswer.{StepAnswer}
 use Rattle.rughtena.proofs.Clocks.{clock-read, clock-put-long}
 use Rattle.rughtena.proofs.Numbers.{said-read}
 
 -- what the step leaves, the clock moved on and the answer in integers
 pub exported-says : (file numbers first second words out : List ℕ)
-    → {core : Stepped} {answer : Answer} {numbers′ first′ second′ out′ : List ℕ} → answer ≡ steppedAnswer core
+    → {core : Stepped} {answer : StepAnswer} {numbers′ first′ second′ out′ : List ℕ} → answer ≡ steppedAnswer core
     → numbers′ ≡ putClock numbers (clockAfter core (clockOf numbers))
     → stepOutcome core first′ second′ out′ ≡ stepOf file (clockOf numbers) first second words out
     → exported answer numbers′ first′ second′ out′ ≡ exportedStep file numbers first second words out
 unfolding exportedStep inNumbers lentStep clocked
 exported-says file numbers first second words out {first′ = first′} {second′} {out′} told moved stepped =
-    ap₂ (λ (a : Answer) (xs : List ℕ). exported a xs first′ second′ out′) told moved
+    ap₂ (λ (a : StepAnswer) (xs : List ℕ). exported a xs first′ second′ out′) told moved
     ∙ ap (λ (o : StepOutcome). inNumbers (clocked o (clockOf numbers)) numbers) stepped
 
 -- three numbers and memories beside a clock and memories

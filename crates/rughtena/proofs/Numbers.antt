@@ -7,26 +7,28 @@ use Rattle.refusal.specs.Refusals.{numberOf, placeOf}
 use Rattle.refusal.specs.Replies.{refuses, refusalReply}
 use Rattle.refusal.proofs.Numbers.{number-range}
 use Rattle.machine.specs.Devices.{refused}
-use Rattle.machine.specs.Machine.{said, stepReply}
+use Rattle.machine.specs.Machine.{said, advanceValues, stepReply}
 use Rattle.machine.specs.declared.Stepped.{Stepped}
 use Rattle.machine.specs.declared.Stepped.the-variants.{Filling, Wrote, Refused}
-use Rattle.rughtena.specs.Answers.{answerOf, steppedAnswer}
+use Rattle.rughtena.specs.Answers.{stepAnswerOf, steppedAnswer}
 use Rattle.rughtena.specs.Step.{replyBy, saidBy}
 
 -- a number from 1 on is read as a refusal's
-pub reply-refuses : (number place : ℕ) → 1 ≤ number → replyBy number place ≡ refuses number place
+pub reply-refuses : (number wrote place : ℕ) → 1 ≤ number → replyBy number wrote place ≡ refuses number place
 unfolding replyBy
-reply-refuses zero place l = absurd (omega arith)
-reply-refuses (suc number) place l = refl
+reply-refuses zero wrote place l = absurd (omega arith)
+reply-refuses (suc number) wrote place l = refl
 
-said-refused : (number place : ℕ) → 1 ≤ number → saidBy number place ≡ refused number place
+said-refused : (number wrote place : ℕ) → 1 ≤ number → saidBy number wrote place ≡ refused number place
 unfolding saidBy
-said-refused zero place l = absurd (omega arith)
-said-refused (suc number) place l = refl
+said-refused zero wrote place l = absurd (omega arith)
+said-refused (suc number) wrote place l = refl
 
 -- what a caller reads from a step's answer is what the answer says
-pub said-read : (answer : Stepped) → saidBy (steppedAnswer answer .number) (steppedAnswer answer .value) ≡ said answer
-unfolding steppedAnswer answerOf stepReply refusalReply saidBy said
+pub said-read : (answer : Stepped)
+    → let told = steppedAnswer answer in
+    saidBy (told .number) (told .wrote) (told .value) ≡ said answer
+unfolding steppedAnswer stepAnswerOf stepReply advanceValues refusalReply saidBy said
 said-read (Filling advance) = refl
 said-read (Wrote advance) = refl
-said-read (Refused r) = said-refused (numberOf r) (placeOf r) (number-range r .0)
+said-read (Refused r) = said-refused (numberOf r) 0 (placeOf r) (number-range r .0)

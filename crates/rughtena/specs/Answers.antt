@@ -16,6 +16,8 @@ use Rattle.machine.specs.Machine.{stepReply}
 use Rattle.machine.specs.declared.Clock.{Clock}
 use Rattle.machine.specs.declared.Stepped.{Stepped}
 use Rattle.rughtena.specs.declared.Answer.{Answer}
+use Rattle.rughtena.specs.declared.FollowAnswer.{FollowAnswer}
+use Rattle.rughtena.specs.declared.StepAnswer.{StepAnswer}
 use Rattle.rughtena.specs.declared.ReadAnswer.{ReadAnswer}
 
 -- number 0 and the first value, or a refusal's number and place
@@ -23,7 +25,17 @@ unfoldable pub answerOf : Reply → Answer
 answerOf (accepts values) = record { number = 0; value = getD values 0 0 }
 answerOf (refuses number place) = record { number = number; value = place }
 
--- the same with three values, which are 0 in a refusal
+-- the same with two values, of which the second is 0 in a refusal
+unfoldable pub followAnswerOf : Reply → FollowAnswer
+followAnswerOf (accepts values) = record { number = 0; value = getD values 0 0; crossed = getD values 1 0 }
+followAnswerOf (refuses number place) = record { number = number; value = place; crossed = 0 }
+
+-- of a step's values the first two; in a refusal the first is 0, and the second is the place
+unfoldable pub stepAnswerOf : Reply → StepAnswer
+stepAnswerOf (accepts values) = record { number = 0; wrote = getD values 0 0; value = getD values 1 0 }
+stepAnswerOf (refuses number place) = record { number = number; wrote = 0; value = place }
+
+-- four values, which are 0 in a refusal
 unfoldable pub readAnswerOf : Reply → ReadAnswer
 readAnswerOf (accepts values) = record {
   number = 0;
@@ -31,8 +43,9 @@ readAnswerOf (accepts values) = record {
   words = getD values 0 0;
   width = getD values 1 0;
   «line_bits» = getD values 2 0;
+  crossed = getD values 3 0;
 }
-readAnswerOf (refuses number place) = record { number = number; place = place; words = 0; width = 0; «line_bits» = 0 }
+readAnswerOf (refuses number place) = record { number = number; place = place; words = 0; width = 0; «line_bits» = 0; crossed = 0 }
 
 unfoldable pub refusalAnswer : Refusal → Answer
 refusalAnswer r = answerOf (refusalReply r)
@@ -43,15 +56,15 @@ generationAnswer answer = answerOf (generationReply answer)
 unfoldable pub settingAnswer : Setting → Answer
 settingAnswer answer = answerOf (settingReply answer)
 
-unfoldable pub lineAnswer : Followed → Answer
-lineAnswer answer = answerOf (followedReply answer)
+unfoldable pub lineAnswer : Followed → FollowAnswer
+lineAnswer answer = followAnswerOf (followedReply answer)
 
 unfoldable pub readingAnswer : Reading → ReadAnswer
 readingAnswer answer = readAnswerOf (readingReply answer)
 
 -- the clock is lent and told apart
-unfoldable pub steppedAnswer : Stepped → Answer
-steppedAnswer answer = answerOf (stepReply answer)
+unfoldable pub steppedAnswer : Stepped → StepAnswer
+steppedAnswer answer = stepAnswerOf (stepReply answer)
 
 -- a clock in three lent numbers: the cycle, the half, the fill
 unfoldable pub clockOf : List ℕ → Clock

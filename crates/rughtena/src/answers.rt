@@ -4,7 +4,9 @@ ghost use Rattle.machine.specs.Machine.{clockAfter};
 ghost use Rattle.rughtena.specs.Answers.{refusalAnswer, lineAnswer, settingAnswer, readingAnswer, generationAnswer, steppedAnswer};
 ghost use Rattle.rughtena.specs.Answers.{clockOf, putClock};
 use crate::Answer;
+use crate::FollowAnswer;
 use crate::ReadAnswer;
+use crate::StepAnswer;
 use generator::Generation;
 use machine::Clock;
 use machine::Stepped;
@@ -51,20 +53,25 @@ pub fn of_setting(core: Setting) -> Answer
     }
 }
 
-// The line on which a line leaves, or the refusal.
-pub fn of_line(core: Followed) -> Answer
+// The line on which a line leaves and the crossed switches, or the refusal.
+pub fn of_line(core: Followed) -> FollowAnswer
     ensures { λ r. ⌜ r ≡ lineAnswer core ⌝ }
 {
     match core {
-        Followed::Line(passage) => Answer {
+        Followed::Line(passage) => FollowAnswer {
             number: 0,
             value: passage.line,
+            crossed: passage.crossed,
         },
-        Followed::Refused(refusal) => of_refusal(refusal),
+        Followed::Refused(refusal) => FollowAnswer {
+            number: refusal.number(),
+            value: refusal.place(),
+            crossed: 0,
+        },
     }
 }
 
-// n, w and the line bits, or the refusal.
+// What a reading gives, or the refusal.
 pub fn of_reading(core: Reading) -> ReadAnswer
     ensures { λ r. ⌜ r ≡ readingAnswer core ⌝ }
 {
@@ -75,6 +82,7 @@ pub fn of_reading(core: Reading) -> ReadAnswer
             words: contents.words,
             width: contents.width,
             line_bits: contents.line_bits,
+            crossed: contents.crossed,
         },
         Reading::Refused(refusal) => ReadAnswer {
             number: refusal.number(),
@@ -82,24 +90,31 @@ pub fn of_reading(core: Reading) -> ReadAnswer
             words: 0,
             width: 0,
             line_bits: 0,
+            crossed: 0,
         },
     }
 }
 
-// Whether words were written, or the refusal.
-pub fn of_step(core: Stepped) -> Answer
+// Whether words were written and the crossed switches, or the refusal.
+pub fn of_step(core: Stepped) -> StepAnswer
     ensures { λ r. ⌜ r ≡ steppedAnswer core ⌝ }
 {
     match core {
-        Stepped::Filling(_) => Answer {
+        Stepped::Filling(advance) => StepAnswer {
             number: 0,
-            value: 0,
+            wrote: 0,
+            value: advance.crossed,
         },
-        Stepped::Wrote(_) => Answer {
+        Stepped::Wrote(advance) => StepAnswer {
             number: 0,
-            value: 1,
+            wrote: 1,
+            value: advance.crossed,
         },
-        Stepped::Refused(refusal) => of_refusal(refusal),
+        Stepped::Refused(refusal) => StepAnswer {
+            number: refusal.number() as u32,
+            wrote: 0,
+            value: refusal.place(),
+        },
     }
 }
 
@@ -113,7 +128,7 @@ fn put_clock(numbers: &mut [usize; 3], clock: Clock)
 }
 
 // The numbers of a clock after a step: those of the next one, or after a refusal the same.
-pub fn move_on(numbers: &mut [usize; 3], core: Stepped)
+pub fn put_clock_after(numbers: &mut [usize; 3], core: Stepped)
     ensures { λ _. ⌜ now (numbers .exit) ≡ putClock (now (numbers .entry)) (clockAfter core (clockOf (now (numbers .entry)))) ⌝ }
 {
     match core {

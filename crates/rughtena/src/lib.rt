@@ -29,7 +29,25 @@ pub struct Answer {
     pub value: usize,
 }
 
-// An accepted reading has number and place 0, n, w and the line bits. A refused one has these three 0.
+// An accepted following has number 0, the line on which it leaves and the crossed switches. A refused one has the refusal's number and place, and
+// no crossed switches.
+#[repr(C)]
+pub struct FollowAnswer {
+    pub number: usize,
+    pub value: usize,
+    pub crossed: usize,
+}
+
+// An accepted step has number 0, 1 if words were written, and as its value the crossed switches. A refused one has the refusal's number, 0 and the
+// refusal's place. Two numbers have 32 bits, so that C is handed the answer in two registers.
+#[repr(C)]
+pub struct StepAnswer {
+    pub number: u32,
+    pub wrote: u32,
+    pub value: usize,
+}
+
+// An accepted reading has number and place 0, n, w, the line bits and the crossed switches. A refused one has these four 0.
 #[repr(C)]
 pub struct ReadAnswer {
     pub number: usize,
@@ -37,10 +55,11 @@ pub struct ReadAnswer {
     pub words: usize,
     pub width: usize,
     pub line_bits: usize,
+    pub crossed: usize,
 }
 
 // major * 10000 + minor * 100 + patch
-const VERSION: usize = 600;
+const VERSION: usize = 700;
 
 // Generating a table set; the value is the file's length in bytes.
 #[no_mangle]
@@ -75,16 +94,16 @@ pub extern "C" fn rughtena_set(width: usize, images: &[u16], values: &mut [u8]) 
     answers::of_setting(set(width, images, values))
 }
 
-// Following a line through a network; the value is the line on which it leaves.
+// Following a line through a network; the value is the line on which it leaves, and the crossed switches are those of the whole network.
 #[no_mangle]
-pub extern "C" fn rughtena_follow(width: usize, values: &[u8], line: usize) -> Answer
+pub extern "C" fn rughtena_follow(width: usize, values: &[u8], line: usize) -> FollowAnswer
     ensures { λ r. ⌜ r ≡ lineAnswer (followOf width (now (values .entry)) line) ⌝ }
 {
     answers::of_line(follow(width, values, line))
 }
 
-// One step of the cycle machine; the value is 1 if words were written and 0 while the card fills. The lent clock has the three numbers of
-// a clock: the cycle, the half and the fill. It is lent, since an answer that holds it would be copied once more by each caller.
+// One step of the cycle machine; the value is the number of crossed switches of the line that moved, 0 where none did. The lent clock has the
+// three numbers of a clock: the cycle, the half and the fill. It is lent, since an answer that holds it would be copied once more by each caller.
 #[no_mangle]
 pub extern "C" fn rughtena_step(
     file: &[u8],
@@ -93,7 +112,7 @@ pub extern "C" fn rughtena_step(
     second: &mut [u16],
     words: &[u16],
     out: &mut [u16],
-) -> Answer
+) -> StepAnswer
     ensures { λ r. ⌜ exported r (now (clock .exit)) (now (first .exit)) (now (second .exit)) (now (out .exit))
         ≡ exportedStep (now (file .entry)) (now (clock .entry)) (now (first .entry)) (now (second .entry)) (now (words .entry))
         (now (out .entry)) ⌝ }
@@ -104,7 +123,7 @@ pub extern "C" fn rughtena_step(
         fill: clock[2],
     };
     let stepped = step(file, given, first, second, words, out);
-    answers::move_on(clock, stepped);
+    answers::put_clock_after(clock, stepped);
     answers::of_step(stepped)
 }
 

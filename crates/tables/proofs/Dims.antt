@@ -10,7 +10,7 @@ use lib.Pow.{pow-pos}
 use Rattle.limits.specs.Limits.{mostWords, mostWidth, mostSwitches}
 use Rattle.laws.proofs.Choices.{ifLe-cases}
 use Rattle.network.specs.Network.{bitCount}
-use Rattle.network.proofs.Counts.{bitCount-mono}
+use Rattle.network.proofs.Counts.{bitCount-few}
 use Rattle.tables.specs.Header.{headerBits, leastHeader}
 use Rattle.tables.specs.Terms.{logFrom, logUp, cycles, addressBits, depth, switchBits, addressRow, lineBits, fileLength}
 use Rattle.tables.specs.Format.{lineAt}
@@ -85,8 +85,8 @@ module _ {n w : ℕ} (D : Dims n w) where
   lines-few = pow-le-pow-right {n = 2} (omega arith) depth-few
 
   pub switchBits-few : switchBits w ≤ mostSwitches
-  unfolding switchBits bitCount
-  switchBits-few = omega (arith, bitCount-mono (depth w) 6 depth-few)
+  unfolding switchBits
+  switchBits-few = bitCount-few (depth w) depth-few
 
   pub addressRow-few : addressRow n w ≤ 768
   unfolding addressRow

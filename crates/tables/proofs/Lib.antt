@@ -27,3 +27,4 @@ pub mod Cursors
 pub mod Scans
 pub mod Passes
 pub mod Lined
+pub mod Crossings

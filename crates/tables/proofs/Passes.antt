@@ -1,24 +1,30 @@
 -- What the code takes from a line: all lines are sent through its network at once, each with its own number, and the parts of a line stand
 -- where the shape says.
-use Prim.Native.Nat.{ℕ, zero, suc, _+_, _*_, _^_, _<_, _≤_}
+use Prim.Native.Nat.{ℕ, zero, suc, _+_, _*_, _-_, _%_, _^_, _<_, _≤_}
 use mathlib.Core.Path.{_≡_, refl, sym, ap, _∙_}
 use mathlib.Core.List.{List, _++_}
+use native.Mathlib.Nat.{zero-add}
 use native.Mathlib.Omega.{arith}
-use lib.ListN.{length, getD, take, drop, length-append, length-drop, List·getD-append}
+use lib.ListN.{length, getD, set, take, drop, length-append, length-drop, length-set, List·getD-append}
 use lib.Pow.{pow-pos}
-use lib.Seq.{length-take-le, getD-take}
+use lib.Seq.{length-take-le, getD-take, getD-set-same, getD-set-other}
 use Rattle.limits.specs.Limits.{mostWidth, mostSwitches}
+use Rattle.laws.specs.Sum.{sum, is, hits}
+use Rattle.laws.proofs.Sums.{is-bit}
 use Rattle.bits.specs.Bits.{bit}
 use Rattle.bits.specs.Reading.{WithZeros, onward}
 use Rattle.bits.specs.declared.reader.Cursor.{Cursor}
-use Rattle.bits.proofs.Fields.{bit-zeros, field-zeros}
-use Rattle.network.specs.Network.{bitCount, leaves}
+use Rattle.bits.proofs.Fields.{bit-lt, bit-zeros, field-zeros}
+use Rattle.network.specs.Network.{bitCount, leaves, crossings}
 use Rattle.network.specs.inner.Sizes.{Sized}
 use Rattle.passing.specs.inner.Steps.{Routed}
+use Rattle.passing.proofs.Routes.{two-leaves}
+use Rattle.network.proofs.Crossings.{crossings-ext}
 use Rattle.network.proofs.Leaves.{leaves-ext, leaves-below}
 use Rattle.tables.specs.Terms.{Dims, depth, switchBits, addressRow, lineBits}
-use Rattle.tables.specs.Format.{lineAt, shapeOf}
+use Rattle.tables.specs.Format.{lineAt, switchBit, lineCrossings, shapeOf}
 use Rattle.tables.specs.inner.Lines.{Addresses, Switches, Sources, Line, LineTaken}
+use Rattle.tables.specs.declared.Pass.{Pass}
 use Rattle.tables.specs.declared.Shape.{Shape}
 use Rattle.tables.proofs.Dims.{addressBits-few, lines-few, switchBits-few}
 
@@ -49,11 +55,48 @@ sources-routed {d} {at} {lines} {count} {file} {found} {after} standing S few W 
         (λ i m. let b : i < count = omega (arith, S .1) in sym (getD-take count found i 0 b ∙ W .each i b)) x l
 
 -- a network without bits has one line, which goes straight through
-pub sources-straight : (d : ℕ) {at lines count : ℕ} {standing : List ℕ} (file : List ℕ) → Sized lines count d → count ≡ 0
-    → (length standing ≡ mostWidth) × ((x : ℕ) → x < lines → getD standing x 0 ≡ x) → Sources d file at standing
+pub sources-straight : (d : ℕ) {at lines count : ℕ} (file standing : List ℕ) → Sized lines count d → count ≡ 0 → length standing ≡ mostWidth
+    → Sources d file at (set standing 0 0)
 unfolding leaves bitCount
-sources-straight zero file S e N = record { long = N .0; each = λ x l. N .1 x (omega (arith, S .0)) }
-sources-straight (suc d) file S e N = absurd (omega (arith, S .1, pow-pos d))
+sources-straight zero file standing S e long = record {
+  long = length-set standing 0 0 ∙ long;
+  each = λ x l.
+      let first : x ≡ 0 = omega arith in
+      rw first (getD-set-same standing 0 0 0 (omega arith));
+}
+sources-straight (suc d) file standing S e long = absurd (omega (arith, S .1, pow-pos d))
+
+-- two lines that stand as a switch with bit b sends them
+two-standing : (standing : List ℕ) (x b : ℕ) → x < 2 → b < 2 → 2 ≤ length standing
+    → getD (set (set standing 0 b) 1 (1 - b)) ((x + b) % 2) 0 ≡ x
+two-standing standing zero zero l m long = getD-set-other (set standing 0 0) 1 0 1 0 (omega arith) ∙ getD-set-same standing 0 0 0 (omega arith)
+two-standing standing zero (suc zero) l m long = getD-set-same (set standing 0 1) 1 0 0 (omega (arith, length-set standing 0 1))
+two-standing standing (suc zero) zero l m long = getD-set-same (set standing 0 0) 1 1 0 (omega (arith, length-set standing 0 0))
+two-standing standing (suc zero) (suc zero) l m long =
+    getD-set-other (set standing 0 1) 1 0 0 0 (omega arith) ∙ getD-set-same standing 0 1 0 (omega arith)
+two-standing standing zero (suc (suc b)) l m long = absurd (omega arith)
+two-standing standing (suc zero) (suc (suc b)) l m long = absurd (omega arith)
+two-standing standing (suc (suc x)) b l m long = absurd (omega arith)
+
+-- a network with one bit is one switch: crossed, line 0 leaves on line 1
+pub sources-switched : (d : ℕ) {at lines count : ℕ} (file standing : List ℕ) (b : ℕ) → Sized lines count d → count ≡ 1 → b ≡ bit file (at + 0)
+    → length standing ≡ mostWidth → Sources d file at (set (set standing 0 b) 1 (1 - b))
+unfolding bitCount
+sources-switched zero file standing b S e same long = absurd (omega (arith, S .1))
+sources-switched (suc zero) {at} file standing b S e same long = record {
+  long = length-set (set standing 0 b) 1 (1 - b) ∙ length-set standing 0 b ∙ long;
+  each = λ x l.
+      let bits : ℕ → ℕ = λ i. bit file (at + i) in
+      let goes : leaves 1 bits x ≡ (x + b) % 2 = two-leaves bits x (omega arith) ∙ ap (λ (z : ℕ). (x + z) % 2) (sym same) in
+      ap (λ (y : ℕ). getD (set (set standing 0 b) 1 (1 - b)) y 0) goes
+      ∙ two-standing standing x b (omega arith) (omega (arith, same, bit-lt file (at + 0))) (omega arith);
+}
+sources-switched (suc (suc d)) file standing b S e same long = absurd (omega (arith, S .1, pow-pos d))
+
+-- and the ones among one bit are the bit
+pub one-counted : (f : ℕ → ℕ) {count : ℕ} → count ≡ 1 → f 0 < 2 → f 0 ≡ hits count f 1
+unfolding hits sum
+one-counted f e l = sym (ap (λ (k : ℕ). hits k f 1) e ∙ zero-add (is (f 0) 1) ∙ is-bit (f 0) l)
 
 -- ---- a line's parts
 
@@ -83,10 +126,10 @@ line-sized {n} {w} D e = (depth w, rw e (refl, refl))
 -- what was read by a cursor that was carried on from part to part
 module _ (n w : ℕ) {s : Shape} (file : List ℕ) (cursor : Cursor) {behind-reads : Cursor} (e : s ≡ shapeOf n w)
     (first : behind-reads ≡ onward cursor (s .width * s .addressing)) where
-  pub switches-read : {setting : List ℕ} → Switches file (behind-reads .at) (s .switches) setting
-      → Switches file (cursor .at + addressRow n w) (switchBits w) setting
-  unfolding shapeOf addressRow
-  switches-read found = rw (first, e) at found
+  pub crossings-read : {crossed : ℕ} (t : ℕ) → cursor .at ≡ lineAt n w t → crossed ≡ hits (s .switches) (λ i. bit file (behind-reads .at + i)) 1
+      → crossed ≡ lineCrossings n w file t
+  unfolding shapeOf addressRow lineCrossings crossings switchBit switchBits
+  crossings-read t stands counted = rw (first, stands, e) at counted
 
   pub line-read : {behind-switches : Cursor} {reads sources writes : List ℕ} (t : ℕ) → behind-switches ≡ onward behind-reads (s .switches)
       → cursor .at ≡ lineAt n w t → Addresses file (cursor .at) (s .addressing) (s .width) reads
@@ -105,8 +148,10 @@ module _ {file longer : List ℕ} (Z : WithZeros file longer) where
   addresses-zeros : {at address count : ℕ} {found : List ℕ} → Addresses longer at address count found → Addresses file at address count found
   addresses-zeros {at} {address} A = record { long = A .long; each = λ b l. A .each b l ∙ field-zeros Z (at + b * address) address }
 
-  switches-zeros : {at count : ℕ} {found : List ℕ} → Switches longer at count found → Switches file at count found
-  switches-zeros {at} S = record { long = S .long; each = λ i l. S .each i l ∙ bit-zeros Z (at + i) }
+  crossings-zeros : (n w t : ℕ) → lineCrossings n w longer t ≡ lineCrossings n w file t
+  unfolding lineCrossings switchBit
+  crossings-zeros n w t =
+      crossings-ext (depth w) (switchBit n w longer t) (switchBit n w file t) (λ i l. bit-zeros Z (lineAt n w t + addressRow n w + i))
 
   sources-zeros : {d at : ℕ} {found : List ℕ} → Sources d longer at found → Sources d file at found
   sources-zeros {d} {at} {found} S = record {
@@ -116,11 +161,11 @@ module _ {file longer : List ℕ} (Z : WithZeros file longer) where
         ap (λ (y : ℕ). getD found y 0) same ∙ S .each x l;
   }
 
-  pub taken-zeros : {n w : ℕ} {cursor behind : Cursor} {setting reads sources writes : List ℕ}
-      → LineTaken n w longer cursor behind setting reads sources writes → LineTaken n w file cursor behind setting reads sources writes
-  taken-zeros L = record {
+  pub taken-zeros : {n w : ℕ} {cursor : Cursor} {pass : Pass} {reads sources writes : List ℕ}
+      → LineTaken n w longer cursor pass reads sources writes → LineTaken n w file cursor pass reads sources writes
+  taken-zeros {n} {w} L = record {
     moved = L .moved;
-    switching = switches-zeros (L .switching);
+    counted = λ t stands. L .counted t stands ∙ crossings-zeros n w t;
     line = λ t stands.
         let line = L .line t stands in
         record { reading = addresses-zeros (line .reading); carrying = sources-zeros (line .carrying); writing = addresses-zeros (line .writing) };

@@ -4,8 +4,10 @@ use mathlib.Core.Path.{_≡_}
 use mathlib.Core.List.{List}
 use lib.ListN.{length}
 use Rattle.laws.specs.Choice.{ifLt, ifEq}
+use Rattle.laws.specs.Sum.{sum}
 use Rattle.bits.specs.Bits.{bit, field}
 use Rattle.bits.specs.declared.reader.Cursor.{Cursor}
+use Rattle.network.specs.Network.{crossings}
 use Rattle.refusal.specs.declared.Refusal.the-variants.{FileShort, Header, FileLong}
 use Rattle.tables.specs.Terms.{Dims, cycles, addressBits, depth, switchBits, addressRow, lineBits, fileLength, dimsTest}
 use Rattle.tables.specs.Header.{headerBits, Begins, leastHeader, headerWords, headerWidth, headerZeros}
@@ -28,6 +30,14 @@ readAddress n w file t b = field file (lineAt n w t + b * addressBits n w) (addr
 -- switch bit i of line t: "B switch bits"
 unfoldable pub switchBit : ℕ → ℕ → List ℕ → ℕ → ℕ → ℕ
 switchBit n w file t i = bit file (lineAt n w t + addressRow n w + i)
+
+-- the crossed switches of line t's network: "the ones in the file's switch bits"
+unfoldable pub lineCrossings : ℕ → ℕ → List ℕ → ℕ → ℕ
+lineCrossings n w file t = crossings (depth w) (switchBit n w file t)
+
+-- those of the set: "the sum over all lines"
+abbrev pub setCrossings : ℕ → ℕ → List ℕ → ℕ
+setCrossings n w file = sum (cycles n w) (lineCrossings n w file)
 
 -- the address that bank k of the second memory writes in line t: "w write addresses of a bits"
 unfoldable pub writeAddress : ℕ → ℕ → List ℕ → ℕ → ℕ → ℕ

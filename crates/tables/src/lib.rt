@@ -2,6 +2,7 @@
 mod lines;
 mod opening;
 
+use bits::Cursor;
 pub use lines::any_from;
 pub use lines::cursor_at;
 pub use lines::line_at;
@@ -32,6 +33,14 @@ pub struct Shape {
     pub start: usize,
     // The bits of one line.
     pub stride: usize,
+}
+
+// What a pass over lines leaves: one line, or the lines of a set.
+pub struct Pass {
+    // The cursor behind them.
+    pub cursor: Cursor,
+    // Their crossed switches.
+    pub crossed: usize,
 }
 
 // Whether n and w keep the limits: 1, 2.

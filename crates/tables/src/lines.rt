@@ -5,15 +5,19 @@ ghost use lib.Dec.{leb};
 ghost use lib.ListN.{length, getD};
 ghost use Rattle.limits.specs.Limits.{mostWidth, mostSwitches};
 ghost use Rattle.laws.specs.Any.{any};
+ghost use Rattle.laws.specs.Sum.{hits};
+ghost use Rattle.bits.specs.Bits.{bit};
 ghost use Rattle.bits.specs.Reading.{mostField, Room, onward};
 ghost use Rattle.network.specs.inner.Sizes.{Sized};
 ghost use Rattle.tables.specs.Terms.{cycles, lineBits};
 ghost use Rattle.tables.specs.Format.{Shaped, cursorAt};
 ghost use Rattle.tables.specs.inner.Lines.{Addresses, Spread, Switches, Sources, LineTaken, spareUsed};
+use crate::Pass;
 use crate::Shape;
 use bits::Cursor;
 use bits::MOST_FIELD;
 use limits::MOST_WIDTH;
+use network::ones;
 
 // The `count` addresses of `address` bits each that come next, and the cursor behind them.
 fn addresses(file: &[u8], cursor: Cursor, address: usize, count: usize, found: &mut [u16]) -> Cursor
@@ -76,8 +80,8 @@ fn number(standing: &mut [u8], lines: usize)
     }
 }
 
-// The line that leaves on each of `lines` lines of a network whose `count` bits come next, and the cursor behind these. The bits are put in
-// `setting`. A network of one line has none.
+// The line that leaves on each of `lines` lines of a network whose `count` bits come next, the cursor behind these, and the ones among them. The
+// bits are put in `setting`. A network of one line has none, and its line goes straight through; one of two lines is one switch.
 fn sources(
     file: &[u8],
     cursor: Cursor,
@@ -85,20 +89,34 @@ fn sources(
     count: usize,
     setting: &mut [u8],
     standing: &mut [u8],
-) -> Cursor
+) -> Pass
     requires { ⌜ ((d : ℕ) × Sized lines count d) ⌝ }
     requires { ⌜ (8 ≤ length (now file)) × (lines ≤ mostWidth) × (count ≤ mostSwitches) × Room cursor count
         × (length (now setting) ≡ mostSwitches) × (length (now standing) ≡ mostWidth) ⌝ }
-    ensures { λ r. ⌜ (r ≡ onward cursor count) × Switches (now (file .entry)) (cursor .at) count (now (setting .exit))
+    ensures { λ r. ⌜ (r .cursor ≡ onward cursor count) × (r .crossed ≡ hits count (λ i. bit (now (file .entry)) (cursor .at + i)) 1)
         × ((d : ℕ) → Sized lines count d → Sources d (now (file .entry)) (cursor .at) (now (standing .exit))) ⌝ }
 {
-    number(standing, lines);
     if count == 0 {
-        return cursor;
+        standing[0] = 0;
+        return Pass { cursor, crossed: 0 };
     }
     let next = switches(file, cursor, count, setting);
+    if count == 1 {
+        let bit = setting[0];
+        standing[0] = bit;
+        standing[1] = 1 - bit;
+        return Pass {
+            cursor: next,
+            crossed: bit as usize,
+        };
+    }
+    number(standing, lines);
+    let crossed = ones(setting, count);
     passing::route(&setting[..count], &mut standing[..lines]);
-    next
+    Pass {
+        cursor: next,
+        crossed,
+    }
 }
 
 // The cursor at line t of a set, with no bit handed out. Only our own crates call it, with the shape of a set and one of its lines.
@@ -121,21 +139,25 @@ fn line_from(
     reads: &mut [u16],
     standing: &mut [u8],
     writes: &mut [u16],
-) -> Cursor
+) -> Pass
     requires { ⌜ Shaped shape × Room cursor (lineBits (shape .words) (shape .width)) × (8 ≤ length (now file)) ⌝ }
     requires { ⌜ (length (now setting) ≡ mostSwitches) × (length (now reads) ≡ mostWidth)
         × (length (now standing) ≡ mostWidth) × (length (now writes) ≡ mostWidth) ⌝ }
-    ensures { λ r. ⌜ LineTaken (shape .words) (shape .width) (now (file .entry)) cursor r (now (setting .exit)) (now (reads .exit))
-        (now (standing .exit)) (now (writes .exit)) ⌝ }
+    ensures { λ r. ⌜ LineTaken (shape .words) (shape .width) (now (file .entry)) cursor r (now (reads .exit)) (now (standing .exit))
+        (now (writes .exit)) ⌝ }
 {
     let read = addresses(file, cursor, shape.addressing, shape.width, reads);
     let carried = sources(file, read, shape.lines, shape.switches, setting, standing);
-    addresses(file, carried, shape.addressing, shape.width, writes)
+    Pass {
+        cursor: addresses(file, carried.cursor, shape.addressing, shape.width, writes),
+        crossed: carried.crossed,
+    }
 }
 
-// What the line does that comes next in a set, and the cursor behind it: the switch bits, the address that each bank of the first memory
-// reads, the line that leaves the network on each line, and the address that each bank of the second memory writes. Only the entries of the
-// set's banks and lines count. The caller lends the arrays, so that they are made once for many lines. Only our own crates call it.
+// What the line does that comes next in a set: the address that each bank of the first memory reads, the line that leaves the network on each
+// line, and the address that each bank of the second memory writes; with the cursor behind it and its crossed switches. Only the entries of the
+// set's banks and lines count. The caller lends the arrays, so that they are made once for many lines, among them one for the switch bits. Only our
+// own crates call it.
 pub fn line_at(
     file: &[u8],
     shape: Shape,
@@ -144,12 +166,12 @@ pub fn line_at(
     reads: &mut [u16],
     standing: &mut [u8],
     writes: &mut [u16],
-) -> Cursor
+) -> Pass
     requires { ⌜ Shaped shape × Room cursor (lineBits (shape .words) (shape .width)) ⌝ }
     requires { ⌜ (length (now setting) ≡ mostSwitches) × (length (now reads) ≡ mostWidth)
         × (length (now standing) ≡ mostWidth) × (length (now writes) ≡ mostWidth) ⌝ }
-    ensures { λ r. ⌜ LineTaken (shape .words) (shape .width) (now (file .entry)) cursor r (now (setting .exit)) (now (reads .exit))
-        (now (standing .exit)) (now (writes .exit)) ⌝ }
+    ensures { λ r. ⌜ LineTaken (shape .words) (shape .width) (now (file .entry)) cursor r (now (reads .exit)) (now (standing .exit))
+        (now (writes .exit)) ⌝ }
 {
     if file.len() < 8 {
         let longer = bits::with_zeros(file);

@@ -5,11 +5,13 @@ use mathlib.Core.List.{List}
 use lib.ListN.{length}
 use Rattle.laws.specs.Choice.{ifLt}
 use Rattle.tables.specs.Terms.{cycles}
-use Rattle.machine.specs.Step.{moving, StepOutcome, stepOutcome, accepted, bufferTest, clockTest, lineTest}
+use Rattle.machine.specs.Step.{moving, movedCrossings, StepOutcome, stepOutcome, accepted, bufferTest, clockTest, lineTest}
 use Rattle.machine.specs.declared.Clock.{Clock}
 use Rattle.machine.specs.declared.Stepped.the-variants.{Refused}
 use Rattle.machine.specs.declared.stepping.Tested.{Tested}
 use Rattle.machine.specs.declared.stepping.Tested.the-variants.{Passed, Refused as Turned}
+use Rattle.machine.specs.declared.stepping.Moved.{Moved}
+use Rattle.machine.specs.declared.stepping.Moved.the-variants.{Crossed, Refused as Unmoved}
 
 -- 12 and 13: memories of 2n words, output memory of w words, and w words
 pub record Room (n w : ℕ) (first second words out : List ℕ) : Type 0 where
@@ -28,15 +30,15 @@ pub record InRange (c : ℕ) (clock : Clock) : Type 0 where
 unfoldable pub testOf : ℕ → ℕ → Clock → ℕ → ℕ → ℕ → ℕ → Tested
 testOf n w clock first second words out = bufferTest n w first second words out Turned (clockTest (cycles n w) clock Turned Passed)
 
--- the answer of a line's tests, with the second memory afterwards
+-- the answer of a line, with the second memory afterwards
 pub data LineOutcome : Type 0 where
-  lineOutcome : Tested → List ℕ → LineOutcome
+  lineOutcome : Moved → List ℕ → LineOutcome
 
 -- the clock's line is tested, and moves
 unfoldable pub moveOf : ℕ → ℕ → List ℕ → Clock → List ℕ → List ℕ → LineOutcome
 moveOf n w file clock first second =
-    lineTest n w file clock (λ r. lineOutcome (Turned r) second)
-    (lineOutcome Passed (ifLt (clock .fill) 1 second (moving n w file clock first w second)))
+    lineTest n w file clock (λ r. lineOutcome (Unmoved r) second)
+    (lineOutcome (Crossed (movedCrossings n w file clock)) (ifLt (clock .fill) 1 second (moving n w file clock first w second)))
 
 -- a step that passed 12, 13 and 14
 unfoldable pub readyOf : ℕ → ℕ → List ℕ → Clock → List ℕ → List ℕ → List ℕ → List ℕ → StepOutcome

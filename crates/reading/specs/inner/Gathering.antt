@@ -13,7 +13,8 @@ use Rattle.refusal.specs.declared.Refusal.{Refusal}
 use Rattle.bits.specs.Reading.{onward}
 use Rattle.bits.specs.declared.reader.Cursor.{Cursor}
 use Rattle.tables.specs.Terms.{cycles, lineBits}
-use Rattle.tables.specs.Format.{cursorAt, readAddress, writeAddress}
+use Rattle.tables.specs.Format.{cursorAt, readAddress, setCrossings, writeAddress}
+use Rattle.tables.specs.declared.Pass.{Pass}
 use Rattle.tables.specs.Datapath.{carryStrays, source, target}
 use Rattle.reading.specs.Reading.{ReadOutcome, readFault, writeFault, scanLines}
 use Rattle.reading.specs.declared.gathering.Tested.{Tested}
@@ -46,9 +47,14 @@ Gathers n w file t Passed places words = Gather n w file (t + 1) places words
 Gathers n w file t (Turned r) places words =
     (k : ℕ) (refused : Refusal → ReadOutcome) (next : ReadOutcome) → scanLines n w file (suc k) t refused next ≡ refused r
 
+-- what a pass over all lines leaves beside the marks
+pub record Passes (n w : ℕ) (file : List ℕ) (pass : Pass) : Type 0 where
+  pub behind : pass .cursor ≡ behindLines n w (cycles n w)
+  pub counted : pass .crossed ≡ setCrossings n w file
+
 -- what the answer to all lines says
 abbrev pub GathersAll : ℕ → ℕ → List ℕ → Gathered → List ℕ → List ℕ → Type 0
-GathersAll n w file (All cursor) places words = (cursor ≡ behindLines n w (cycles n w)) × Gather n w file (cycles n w) places words
+GathersAll n w file (All pass) places words = Passes n w file pass × Gather n w file (cycles n w) places words
 GathersAll n w file (Refused r) places words =
     (refused : Refusal → ReadOutcome) (next : ReadOutcome) → scanLines n w file (cycles n w) 0 refused next ≡ refused r
 

@@ -18,8 +18,8 @@ element-copy-out-t17 c = search needs
 step-requires : tie.Need-step-requires
 step-requires c κs = search needs
 
-move-on-requires : tie.Need-move-on-requires
-move-on-requires c κs = search needs
+put-clock-after-requires : tie.Need-put-clock-after-requires
+put-clock-after-requires c κs = search needs
 
 of-step-requires : tie.Need-of-step-requires
 of-step-requires c κs = search needs
@@ -37,7 +37,7 @@ returns : tie.Need-returns
 unfolding clockOf
 returns c =
     let call = c .before .before .before .before .before .before .before .before .before .step in
-    exported-says _ _ _ _ _ _ (c .of-step .ensures) (c .before .move-on .ensures) (call .ensures)
+    exported-says _ _ _ _ _ _ (c .of-step .ensures) (c .before .put-clock-after .ensures) (call .ensures)
 
 pub rughtena-step-spec : {M : Type 1} → statement M
 rughtena-step-spec =
@@ -47,7 +47,7 @@ rughtena-step-spec =
     element-copy-out-t14
     element-copy-out-t17
     step-requires
-    move-on-requires
+    put-clock-after-requires
     of-step-requires
     same-length
     same-length-2

@@ -12,7 +12,8 @@ use Rattle.bits.specs.Reading.{onward}
 use Rattle.bits.specs.declared.reader.Cursor.{Cursor}
 use Rattle.network.specs.Network.{leaves}
 use Rattle.tables.specs.Terms.{addressBits, depth, switchBits, addressRow, lineBits}
-use Rattle.tables.specs.Format.{lineAt}
+use Rattle.tables.specs.Format.{lineAt, lineCrossings}
+use Rattle.tables.specs.declared.Pass.{Pass}
 
 -- the addresses that stand from bit `at` on
 pub record Addresses (file : List ℕ) (at address count : ℕ) (found : List ℕ) : Type 0 where
@@ -41,10 +42,10 @@ pub record Line (n w : ℕ) (file : List ℕ) (t : ℕ) (reads sources writes : 
   pub carrying : Sources (depth w) file (lineAt n w t + addressRow n w) sources
   pub writing : Addresses file (lineAt n w t + addressRow n w + switchBits w) (addressBits n w) w writes
 
--- the line that comes next at a cursor was taken, whatever its number, and `behind` stands behind it
-pub record LineTaken (n w : ℕ) (file : List ℕ) (cursor behind : Cursor) (setting reads sources writes : List ℕ) : Type 0 where
-  pub moved : behind ≡ onward cursor (lineBits n w)
-  pub switching : Switches file (cursor .at + addressRow n w) (switchBits w) setting
+-- the line that comes next at a cursor was taken, whatever its number: the cursor behind it, its crossed switches, and what it does
+pub record LineTaken (n w : ℕ) (file : List ℕ) (cursor : Cursor) (pass : Pass) (reads sources writes : List ℕ) : Type 0 where
+  pub moved : pass .cursor ≡ onward cursor (lineBits n w)
+  pub counted : (t : ℕ) → cursor .at ≡ lineAt n w t → pass .crossed ≡ lineCrossings n w file t
   pub line : (t : ℕ) → cursor .at ≡ lineAt n w t → Line n w file t reads sources writes
 
 -- a line below the width stands on a spare line

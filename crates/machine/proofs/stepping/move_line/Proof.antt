@@ -1,5 +1,5 @@
 -- `machine::stepping::move_line` meets its contract: with no frame held nothing is done; else the three tests are the definition's, in its
--- order, and the words of a line that passes them move.
+-- order, the words of a line that passes them move, and its crossed switches are told.
 use Prim.Native.Nat.{ℕ}
 use mathlib.Core.Path.{_≡_, refl, sym, ap, _∙_}
 use mathlib.Core.Bool.{Bool, false}
@@ -7,7 +7,7 @@ use mathlib.Core.List.{List}
 use native.Mathlib.Omega.{arith}
 use borrow.Author.Needs.{needs}
 use Rattle.tables.specs.Datapath.{readStrays, carryStrays, writeStrays, strays}
-use Rattle.tables.specs.Format.{cursorAt}
+use Rattle.tables.specs.Format.{lineAt, cursorAt}
 use Rattle.tables.specs.inner.Lines.{Line}
 use Rattle.bits.specs.declared.reader.Cursor.{Cursor}
 use Rattle.tables.proofs.Cursors.{line-room}
@@ -45,10 +45,14 @@ stands : (c : tie.After-cursor-at) → let s = start1 (c .before) in
     c .cursor-at .result ≡ cursorAt (s .args .shape .words) (s .args .shape .width) (s .args .clock .cycle)
 stands c = c .cursor-at .ensures
 
+at-line : (c : tie.After-line-at) → let s = line-start c in
+    c .before .before .before .before .before .cursor-at .result .at ≡ lineAt (s .args .shape .words) (s .args .shape .width) (s .args .clock .cycle)
+at-line c = ap (λ (x : Cursor). x .at) (stands (c .before .before .before .before .before))
+
 line-of : (c : tie.After-line-at) → let s = line-start c in
     let last = c .line-at .last .1 .1 .1 .1 in
     Line (s .args .shape .words) (s .args .shape .width) (s .args .file .now) (s .args .clock .cycle) (last .0) (last .1 .0) (last .1 .1 .0)
-line-of c = c .line-at .ensures .line (line-start c .args .clock .cycle) (ap (λ (x : Cursor). x .at) (stands (c .before .before .before .before .before)))
+line-of c = c .line-at .ensures .line (line-start c .args .clock .cycle) (at-line c)
 
 -- what each test says
 reads-told : (c : tie.After-any-from) {b : Bool} → c .any-from .result ≡ b → own readStrays (line-start (found c)) ≡ b
@@ -164,8 +168,9 @@ returns-5 c =
     let two = three .before .before .before in
     let line = found3 (four .before) in
     let s = line-start line in
+    let counted = line .line-at .ensures .counted (s .args .clock .cycle) (at-line line) in
     line-moves _ _ _ _ _ _ (held line .if1 .left) (reads-told (two .before) (two .if2 .left)) (carries-told (three .before) (three .if3 .left))
-    (writes-told (four .before) (four .if4 .left)) (moved .move-words .ensures (s .args .file .now) (line-of line) (none four))
+    (writes-told (four .before) (four .if4 .left)) counted (moved .move-words .ensures (s .args .file .now) (line-of line) (none four))
 
 pub move-line-spec : {M : Type 1} → statement M
 move-line-spec =

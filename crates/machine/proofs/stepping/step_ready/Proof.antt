@@ -4,9 +4,9 @@ use mathlib.Core.Path.{_≡_, sym, ap, _∙_}
 use mathlib.Core.List.{List}
 use Prim.Native.Nat.{ℕ}
 use borrow.Author.Needs.{needs}
-use Rattle.machine.specs.declared.stepping.Tested.{Tested}
+use Rattle.machine.specs.declared.stepping.Moved.{Moved}
 use Rattle.machine.specs.inner.Ready.{lineOutcome, moveOf}
-use Rattle.machine.proofs.Tests.{line-refused, line-goes-on}
+use Rattle.machine.proofs.Tests.{line-refused, line-crossed, line-goes-on}
 use Rattle.machine.proofs.stepping.step_ready.Statement.{statement}
 use Rattle.machine.proofs.stepping.step_ready.Tie as tie
 
@@ -18,11 +18,11 @@ abbrev moved : (c : tie.After-move-line) → List ℕ
 moved c = c .move-line .last .1 .1 .1 .1 .0
 
 -- what the line's tests said
-line-told : (c : tie.After-move-line) {x : Tested} → c .move-line .result ≡ x
+line-told : (c : tie.After-move-line) {x : Moved} → c .move-line .result ≡ x
     → let s = start c in
     lineOutcome x (moved c)
     ≡ moveOf (s .args .shape .words) (s .args .shape .width) (s .args .file .now) (s .args .clock) (s .args .first .now) (s .args .second .now)
-line-told c e = ap (λ (z : Tested). lineOutcome z (moved c)) (sym e) ∙ c .move-line .ensures
+line-told c e = ap (λ (z : Moved). lineOutcome z (moved c)) (sym e) ∙ c .move-line .ensures
 
 move-line-requires : tie.Need-move-line-requires
 move-line-requires c κs = search needs
@@ -30,8 +30,8 @@ move-line-requires c κs = search needs
 enum-known-refusal : tie.Need-enum-known-refusal
 enum-known-refusal c = search needs
 
-enum-told : tie.Need-enum-told
-enum-told c = search needs
+enum-known-crossed : tie.Need-enum-known-crossed
+enum-known-crossed c = search needs
 
 leave-requires : tie.Need-leave-requires
 leave-requires c κs = search needs
@@ -68,12 +68,17 @@ returns-2 : tie.Need-returns-2
 returns-2 c =
     let entered = c .before .before .before in
     let left = entered .before .before .before .before in
-    let told = left .before .before .before in
+    let told = left .before .before .before .before in
     let line = told .before .before .before .before in
     let s = start line in
+    let crossed = told .crossed .given .0 .0 in
+    let says = line-told line (told .crossed .given .1) in
+    let counted =
+    line-crossed (s .args .shape .words) (s .args .shape .width) (s .args .file .now) (s .args .clock) (s .args .first .now)
+    (s .args .second .now) (s .args .words .now) (s .args .out .now) crossed (moved line) says in
     line-goes-on (s .args .shape .words) (s .args .shape .width) (s .args .file .now) (s .args .clock) (s .args .first .now)
-    (s .args .second .now) (s .args .words .now) (s .args .out .now) (s .pre .0 .1) (moved line) (line-told line (told .enum-told .given .1))
-    (c .answer .ensures (s .args .file .now)) (entered .enter .ensures) (left .leave .ensures)
+    (s .args .second .now) (s .args .words .now) (s .args .out .now) (s .pre .0 .1) crossed (moved line) says
+    (c .answer .ensures (s .args .file .now) counted) (entered .enter .ensures) (left .leave .ensures)
 
 pub step-ready-spec : {M : Type 1} → statement M
 step-ready-spec =
@@ -81,7 +86,7 @@ step-ready-spec =
     (tie.spec
     move-line-requires
     enum-known-refusal
-    enum-told
+    enum-known-crossed
     leave-requires
     enter-requires
     answer-requires

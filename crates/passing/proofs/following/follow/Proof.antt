@@ -1,18 +1,22 @@
 -- `following::follow` meets its contract: each return stands at its place in the chain of checks, and a line that passes them
--- is followed through the first values.
+-- is followed through the first values, of which the ones are counted.
 use Prim.Native.Nat.{ℕ, _≤_}
-use mathlib.Core.Path.{_≡_, refl, sym, ap, _∙_}
+use mathlib.Core.Path.{_≡_, refl, sym, ap, ap₂, _∙_}
+use native.Mathlib.Omega.{arith}
 use borrow.Author.Needs.{needs}
 use lib.ListN.{length, getD, take}
 use lib.Seq.{length-take-le, getD-take}
 use Rattle.laws.proofs.Choices.{ifLt-yes, ifLt-no, ifLe-yes, ifLe-no}
 use Rattle.refusal.specs.declared.Refusal.the-variants.{SwitchValue}
-use Rattle.network.specs.Network.{bitCount, leaves, depthOf}
+use Rattle.network.specs.Network.{bitCount, leaves, crossings, depthOf}
 use Rattle.network.specs.inner.Sizes.{Sized}
 use Rattle.passing.specs.Calls.{firstBad, passageOf, followOf}
 use Rattle.passing.specs.declared.following.Followed.the-variants.{Line, Refused}
+use Rattle.network.proofs.Counts.{bitCount-few}
+use Rattle.network.proofs.Crossings.{ones-crossings}
 use Rattle.network.proofs.Leaves.{leaves-ext}
 use Rattle.network.proofs.Depths.{depth-width}
+use Rattle.passing.proofs.Values.{first-all}
 use Rattle.passing.proofs.following.follow.Statement.{statement}
 use Rattle.passing.proofs.following.follow.Tie as tie
 
@@ -116,12 +120,30 @@ leaves-known c =
     ∙ leaves-ext (depthOf (s .args .width)) (λ i. getD (take count (s .args .values .now)) i 0) (λ i. getD (s .args .values .now) i 0)
     (λ i l. getD-take count (s .args .values .now) i 0 (rw n l)) (s .args .line) (rw (← wide) (c .before .before .if4 .left))
 
+ones-requires : tie.Need-ones-requires
+ones-requires c κs =
+    let n = count-known (c .before .before .before .before .before .before) in
+    let few = bitCount-few _ (deep (c .before .before .before .before .before .before .before)) in
+    let s = from-line (c .before .before) in
+    let bits = bitCount (depthOf (s .args .width)) in
+    let good-values = first-all (s .args .values .now) bits 0 (omega (arith, good (c .before .before .before))) in
+    let long = room (c .before .before .before .before .before) in
+    ((omega (arith, n, long), omega (arith, n, few)), λ i l. good-values i (omega arith) (omega (arith, n)))
+
+-- the ones among the values that count
+crossed-known : (c : tie.After-ones)
+    → let s = from-line (c .before .before .before) in
+    c .ones .result ≡ crossings (depthOf (s .args .width)) (λ i. getD (s .args .values .now) i 0)
+crossed-known c = c .ones .ensures ∙ ones-crossings _ _ (count-known (c .before .before .before .before .before .before .before))
+
 returns-5 : tie.Need-returns-5
 unfolding followOf passageOf
 returns-5 c =
-    ifLt-no 6 _ _ _ _ (deep (c .before .before .before .before .before .before .before)) (ifLt-no _ _ _ _ _ (room (c .before .before .before .before .before))
-    (ifLt-no _ _ _ _ _ (good (c .before .before .before)) (ifLe-no _ _ _ _ _ (c .before .before .if4 .left)
-    (ap (λ (z : ℕ). Line (record { line = z })) (leaves-known c)))))
+    let walked = c .before in
+    ifLt-no 6 _ _ _ _ (deep (walked .before .before .before .before .before .before .before))
+    (ifLt-no _ _ _ _ _ (room (walked .before .before .before .before .before))
+    (ifLt-no _ _ _ _ _ (good (walked .before .before .before)) (ifLe-no _ _ _ _ _ (walked .before .before .if4 .left)
+    (ap₂ (λ (z y : ℕ). Line (record { line = z; crossed = y })) (leaves-known walked) (crossed-known c)))))
 
 pub follow-spec : {M : Type 1} → statement M
 follow-spec =
@@ -136,4 +158,5 @@ follow-spec =
     returns-4
     slice-aggregate-walk
     walk-requires
+    ones-requires
     returns-5)

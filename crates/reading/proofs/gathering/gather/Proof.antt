@@ -1,30 +1,36 @@
 -- `reading::gathering::gather` meets its contract: a line is refused, which stops the scan there, or the scan goes on behind it, by the cursor
 -- that stands there. The arrays of a line keep their lengths.
-use Prim.Native.Nat.{ℕ, _-_, _<_, _≤_}
-use mathlib.Core.Path.{_≡_, subst, sym, ap, _∙_}
+use Prim.Native.Nat.{ℕ, _+_, _-_, _<_, _≤_}
+use mathlib.Core.Path.{_≡_, refl, subst, sym, ap, ap₂, _∙_}
+use native.Mathlib.Numerals.{add-one}
 use native.Mathlib.Omega.{arith}
 use borrow.Author.Needs.{needs}
 use lib.ListN.{length, length-replicate}
 use Rattle.limits.specs.Limits.{mostWidth, mostSwitches}
+use Rattle.laws.specs.Sum.{sum}
 use Rattle.bits.specs.Reading.{onward}
 use Rattle.bits.specs.declared.reader.Cursor.{Cursor}
 use Rattle.tables.specs.Terms.{cycles, lineBits}
+use Rattle.tables.specs.Format.{lineAt, lineCrossings}
 use Rattle.tables.specs.inner.Lines.{Line}
 use Rattle.reading.specs.inner.Gathering.{behindLines, Gathers}
 use Rattle.reading.specs.declared.gathering.Tested.{Tested}
 use Rattle.tables.proofs.Dims.{cycles-positive, cycles-few}
+use Rattle.tables.proofs.Crossings.{crossings-fit}
 use Rattle.reading.proofs.Counts.{behind-stands, behind-none, behind-more, behind-room}
 use Rattle.reading.proofs.Gathers.{Gathering, gathering-none, gathering-more, gathering-refused, gathering-all}
 use Rattle.reading.proofs.gathering.gather.Statement.{statement}
 use Rattle.reading.proofs.gathering.gather.Tie as tie
 
 abbrev Inv-loop : tie.InvT-loop
-Inv-loop file shape places₀ words₀ cycles setting₀ reads₀ standing₀ writes₀ cursor₀ t₀ places words setting reads standing writes cursor t =
-    (Gathering (shape .words) (shape .width) file t places words × (cursor ≡ behindLines (shape .words) (shape .width) t))
+Inv-loop file shape places₀ words₀ cycles setting₀ reads₀ standing₀ writes₀ cursor₀ crossed₀ t₀ places words setting reads standing writes cursor crossed t =
+    (Gathering (shape .words) (shape .width) file t places words × (cursor ≡ behindLines (shape .words) (shape .width) t)
+    × (crossed ≡ sum t (lineCrossings (shape .words) (shape .width) file)))
     × (length setting ≡ mostSwitches) × (length reads ≡ mostWidth) × (length standing ≡ mostWidth) × (length writes ≡ mostWidth)
 
 abbrev μ-loop : tie.MeasureT-loop
-μ-loop file shape places₀ words₀ cycles setting₀ reads₀ standing₀ writes₀ cursor₀ t₀ places words setting reads standing writes cursor t = cycles - t
+μ-loop file shape places₀ words₀ cycles setting₀ reads₀ standing₀ writes₀ cursor₀ crossed₀ t₀ places words setting reads standing writes cursor crossed t =
+    cycles - t
 
 -- ---- the places
 
@@ -49,8 +55,8 @@ line c = c .before .before .before .before
 abbrev line-refused : tie.After-known-told Inv-loop μ-loop → tie.After-gather-line Inv-loop μ-loop
 line-refused c = line (c .before .before .before)
 
-abbrev line-passed : tie.After-enum-told Inv-loop μ-loop → tie.After-gather-line Inv-loop μ-loop
-line-passed c = line (c .before .before)
+abbrev line-passed : tie.After-struct-known Inv-loop μ-loop → tie.After-gather-line Inv-loop μ-loop
+line-passed c = line (c .before .before .before .before)
 
 -- ---- the facts
 
@@ -60,7 +66,14 @@ line-left : (c : tie.In-loop Inv-loop μ-loop)
     c .before .loop .t < cycles (s .args .shape .words) (s .args .shape .width)
 line-left c = let s = start (c .before) in rw (s .pre .0 .cycles) at (c .loop-test .taken)
 
--- the cursor stands at line t, and what that line does
+-- the cursor stands at line t
+stands : (c : tie.After-line-at Inv-loop μ-loop)
+    → let a = turn c .before in
+    let s = start a in
+    a .loop .cursor .at ≡ lineAt (s .args .shape .words) (s .args .shape .width) (a .loop .t)
+stands c = let a = turn c .before in ap (λ (x : Cursor). x .at) (a .loop .inv .0 .1) ∙ behind-stands _ _ (a .loop .t)
+
+-- what line t does
 line-read : (c : tie.After-line-at Inv-loop μ-loop)
     → let a = turn c .before in
     let s = start a in
@@ -68,7 +81,7 @@ line-read : (c : tie.After-line-at Inv-loop μ-loop)
     Line (s .args .shape .words) (s .args .shape .width) (s .args .file .now) (a .loop .t) (last .0) (last .1 .0) (last .1 .1 .0)
 line-read c =
     let a = turn c .before in
-    c .line-at .ensures .line (a .loop .t) (ap (λ (x : Cursor). x .at) (a .loop .inv .0 .1) ∙ behind-stands _ _ (a .loop .t))
+    c .line-at .ensures .line (a .loop .t) (stands c)
 
 -- what the tests of line t say, once their answer is known
 gathers : (c : tie.After-gather-line Inv-loop μ-loop) (g : Tested)
@@ -85,15 +98,28 @@ gathers c g e =
     λ g. Gathers (s .args .shape .words) (s .args .shape .width) (s .args .file .now) (a .loop .t) g (marks .0) (marks .1 .0) in
     subst Ends e (c .gather-line .ensures (s .args .file .now) (line-read (read c)) (a .loop .inv .0 .0 .gathered))
 
+-- the crossed switches of line t are added to those of the lines before it
+counted : (c : tie.After-struct-known Inv-loop μ-loop)
+    → let a = test (line-passed c) .before in
+    let s = start a in
+    let crossings = lineCrossings (s .args .shape .words) (s .args .shape .width) (s .args .file .now) in
+    a .loop .crossed + read (line-passed c) .line-at .result .crossed ≡ sum (a .loop .t + 1) crossings
+unfolding sum
+counted c =
+    let r = read (line-passed c) in
+    let a = turn r .before in
+    rw add-one (ap₂ _+_ (a .loop .inv .0 .2) (r .line-at .ensures .counted (a .loop .t) (stands r)))
+
 cursor-at-requires : tie.Need-cursor-at-requires Inv-loop μ-loop
 cursor-at-requires c κs = let shaped = c .before .before .before .pre .0 in (shaped, cycles-positive (shaped .dims))
 
 loop-holds : tie.Need-loop-holds Inv-loop μ-loop
+unfolding sum
 loop-holds c =
     let wide = length-replicate {A = ℕ} mostWidth 0 in
     let s = c .before .before .before .before in
     let first = c .cursor-at .ensures ∙ behind-none (s .args .shape .words) (s .args .shape .width) in
-    ((gathering-none (s .pre .1), first), length-replicate {A = ℕ} mostSwitches 0, wide, wide, wide)
+    ((gathering-none (s .pre .1), first, refl), length-replicate {A = ℕ} mostSwitches 0, wide, wide, wide)
 
 slice-aggregate-line-at : tie.Need-slice-aggregate-line-at Inv-loop μ-loop
 slice-aggregate-line-at c = sym (c .before .before .loop .inv .1)
@@ -154,6 +180,13 @@ returns c =
 enum-told : tie.Need-enum-told Inv-loop μ-loop
 enum-told c = search needs
 
+add-crossed : tie.Need-add-crossed Inv-loop μ-loop
+add-crossed c =
+    let d = test (line-passed c) in
+    let a = d .before in
+    let dims = start a .pre .0 .dims in
+    record { fits = omega (arith, counted c, crossings-fit dims (start a .args .file .now) (a .loop .t + 1), line-left d, cycles-few dims) }
+
 add-t : tie.Need-add-t Inv-loop μ-loop
 add-t c =
     let d = test (line-passed c) in
@@ -173,7 +206,7 @@ loop-again c =
     let held = a .loop .inv in
     let kept = r .line-at .kept .1 .1 .1 in
     let further = r .line-at .ensures .moved ∙ ap (λ (x : Cursor). onward x (lineBits n w)) (held .0 .1) ∙ behind-more n w (a .loop .t) in (
-      (gathering-more (held .0 .0) (line-left (test d)) (gathers d _ (c .enum-told .given .1)), further),
+      (gathering-more (held .0 .0) (line-left (test d)) (gathers d _ (c .before .before .enum-told .given .1)), further, counted c),
       kept .0 ∙ held .1,
       kept .1 .0 ∙ held .2,
       kept .1 .1 .0 ∙ held .3,
@@ -195,7 +228,9 @@ returns-2 c =
     let held = a .loop .inv .0 in
     let over : cycles n w ≤ a .loop .t = rw (s .pre .0 .cycles) at (c .loop-test .left) in
     let last : a .loop .t ≡ cycles n w = omega (arith, held .0 .upto) in
-    (held .1 ∙ ap (behindLines n w) last, gathering-all (held .0) over)
+    let file = s .args .file .now in
+    let all = ap (λ (k : ℕ). sum k (lineCrossings n w file)) last in
+    (record { behind = held .1 ∙ ap (behindLines n w) last; counted = held .2 ∙ all }, gathering-all (held .0) over)
 
 pub gather-spec : {M : Type 1} → statement M
 gather-spec =
@@ -219,6 +254,7 @@ gather-spec =
     same-length-2
     returns
     enum-told
+    add-crossed
     add-t
     loop-less
     loop-again

@@ -78,8 +78,8 @@ gather-requires c κs = let k : tie.After-shape = c .before .before .before in (
 enum-known-refusal-2 : tie.Need-enum-known-refusal-2
 enum-known-refusal-2 c = search needs
 
-enum-known-cursor : tie.Need-enum-known-cursor
-enum-known-cursor c = search needs
+enum-known-pass : tie.Need-enum-known-pass
+enum-known-pass c = search needs
 
 returns : tie.Need-returns
 returns c = λ images scratch l m.
@@ -108,11 +108,11 @@ returns-2 c = λ images scratch l m.
 abbrev gathered-accepted : tie.After-known-told4 → tie.After-gather
 gathered-accepted c = gathered-answer (c .before .before .before)
 
-all-gathered : (c : tie.After-known-told4) → Told (gathered-accepted c) (All (c .before .cursor .given .0 .0))
-all-gathered c = subst (Told (gathered-accepted c)) (c .before .cursor .given .1) (gathered-accepted c .gather .ensures)
+all-gathered : (c : tie.After-known-told4) → Told (gathered-accepted c) (All (c .before .pass .given .0 .0))
+all-gathered c = subst (Told (gathered-accepted c)) (c .before .pass .given .1) (gathered-accepted c .gather .ensures)
 
 contents-of-requires : tie.Need-contents-of-requires
-contents-of-requires c κs = all-gathered c .0
+contents-of-requires c κs = search needs
 
 same-length-2 : tie.Need-same-length-2
 same-length-2 c = search needs
@@ -126,7 +126,7 @@ returns-3 c = λ images scratch l m.
     let n = shape-of k .words in
     let w = shape-of k .width in
     let all = all-gathered told .1 in
-    let same = c .contents-of .ensures file in
+    let same = c .contents-of .ensures file (all-gathered told .0) in
     let after = overwrite n (imageOf n w file) images in (
       after,
       ap (λ (x : Contents). readOutcome (Read x) after) same ∙ gathered-reads file (opened k) (shaped k .dims) images scratch l m all,
@@ -144,7 +144,7 @@ read-leavers-spec =
     slice-aggregate-gather
     gather-requires
     enum-known-refusal-2
-    enum-known-cursor
+    enum-known-pass
     contents-of-requires
     returns
     same-length

@@ -41,8 +41,8 @@ gather-requires c κs = let s = c .before .before .before .before .before .befor
 enum-known-refusal : tie.Need-enum-known-refusal
 enum-known-refusal c = search needs
 
-enum-known-cursor : tie.Need-enum-known-cursor
-enum-known-cursor c = search needs
+enum-known-pass : tie.Need-enum-known-pass
+enum-known-pass c = search needs
 
 slice-aggregate-write-images : tie.Need-slice-aggregate-write-images
 slice-aggregate-write-images c = search needs
@@ -78,11 +78,11 @@ returns-3 c =
     (ifLt-no _ _ _ _ _ (roomy g .if2 .left) (sym (stops (λ r. readOutcome (Refused r) images) _)))
 
 -- all lines passed
-all-gathered : (c : tie.After-known-told2) → Says (gathered c) (All (c .before .cursor .given .0 .0))
-all-gathered c = subst (Says (gathered c)) (c .before .cursor .given .1) (gathered c .gather .ensures)
+all-gathered : (c : tie.After-known-told2) → Says (gathered c) (All (c .before .pass .given .0 .0))
+all-gathered c = subst (Says (gathered c)) (c .before .pass .given .1) (gathered c .gather .ensures)
 
 contents-of-requires : tie.Need-contents-of-requires
-contents-of-requires c κs = all-gathered (written c .before .before .before) .0
+contents-of-requires c κs = search needs
 
 same-length : tie.Need-same-length
 same-length c = search needs
@@ -98,11 +98,12 @@ returns-4 c =
     let w = s .args .shape .width in
     let file = s .args .file .now in
     let images = s .args .images .now in
+    let passed = all-gathered told .0 in
     let all = all-gathered told .1 in
     let made = write .write-images .ensures ∙ overwrite-ext n _ (imageOf n w file) images (gather-images (s .pre .dims) all) in
     ifLt-no _ _ _ _ _ (roomy g .before .if1 .left)
     (ifLt-no _ _ _ _ _ (roomy g .if2 .left)
-    (ap₂ (λ (k : Contents) (xs : List ℕ). readOutcome (Read k) xs) (c .contents-of .ensures file) made
+    (ap₂ (λ (k : Contents) (xs : List ℕ). readOutcome (Read k) xs) (c .contents-of .ensures file passed) made
     ∙ sym (gather-scan all (λ r. readOutcome (Refused r) images) _)))
 
 pub read-set-spec : {M : Type 1} → statement M
@@ -116,7 +117,7 @@ read-set-spec =
     slice-aggregate-gather-2
     gather-requires
     enum-known-refusal
-    enum-known-cursor
+    enum-known-pass
     slice-aggregate-write-images
     write-images-requires
     contents-of-requires

@@ -1,43 +1,54 @@
--- `answers::of_step` meets its contract: each case of the answer by itself.
+-- `answers::of_step` meets its contract: each case of the answer by itself. A refusal's number is at most 15, so it fits 32 bits.
 use mathlib.Core.Path.{refl}
+use native.Mathlib.Omega.{arith}
 use borrow.Author.Needs.{needs}
-use Rattle.machine.specs.Machine.{stepReply}
-use Rattle.rughtena.specs.Answers.{steppedAnswer, refusalAnswer, answerOf}
+use Rattle.refusal.specs.Replies.{refusalReply}
+use Rattle.refusal.proofs.Numbers.{number-range}
+use Rattle.machine.specs.Machine.{advanceValues, stepReply}
+use Rattle.rughtena.specs.Answers.{steppedAnswer, stepAnswerOf}
 use Rattle.rughtena.proofs.answers.of_step.Statement.{statement}
 use Rattle.rughtena.proofs.answers.of_step.Tie as tie
-
-enum-told : tie.Need-enum-told
-enum-told c = search needs
-
-enum-told-2 : tie.Need-enum-told-2
-enum-told-2 c = search needs
 
 enum-known-core : tie.Need-enum-known-core
 enum-known-core c = search needs
 
-of-refusal-requires : tie.Need-of-refusal-requires
-of-refusal-requires c κs = search needs
+enum-known-core-2 : tie.Need-enum-known-core-2
+enum-known-core-2 c = search needs
+
+enum-known-core-3 : tie.Need-enum-known-core-3
+enum-known-core-3 c = search needs
+
+number-requires : tie.Need-number-requires
+number-requires c κs = search needs
+
+cast-t7 : tie.Need-cast-t7
+cast-t7 c = omega (arith, c .number .ensures, number-range (c .before .before .core3 .given .0 .0) .1)
+
+place-requires : tie.Need-place-requires
+place-requires c κs = search needs
 
 returns : tie.Need-returns
-unfolding steppedAnswer refusalAnswer stepReply answerOf
-returns c = rw (c .enum-told .given .1) refl
+unfolding steppedAnswer stepReply advanceValues stepAnswerOf refusalReply
+returns c = rw (c .before .core .given .1) refl
 
 returns-2 : tie.Need-returns-2
-unfolding steppedAnswer refusalAnswer stepReply answerOf
-returns-2 c = rw (c .enum-told2 .given .1) refl
+unfolding steppedAnswer stepReply advanceValues stepAnswerOf refusalReply
+returns-2 c = rw (c .before .core2 .given .1) refl
 
 returns-3 : tie.Need-returns-3
-unfolding steppedAnswer refusalAnswer stepReply answerOf
-returns-3 c = rw (c .before .before .core .given .1) (c .of-refusal .ensures)
+unfolding steppedAnswer stepReply advanceValues stepAnswerOf refusalReply
+returns-3 c = rw (c .before .number .ensures) (rw (c .place .ensures) (rw (c .before .before .before .core3 .given .1) refl))
 
 pub of-step-spec : {M : Type 1} → statement M
 of-step-spec =
     tie.close
     (tie.spec
-    enum-told
-    enum-told-2
     enum-known-core
-    of-refusal-requires
+    enum-known-core-2
+    enum-known-core-3
+    number-requires
+    cast-t7
+    place-requires
     returns
     returns-2
     returns-3)

@@ -7,7 +7,7 @@ use borrow.Author.Needs.{needs}
 use Rattle.bits.specs.Reading.{onward}
 use Rattle.tables.proofs.Cursors.{room-less, room-behind, carried-on}
 use Rattle.tables.proofs.Opens.{shape-same}
-use Rattle.tables.proofs.Passes.{Fitting, line-fits, line-sized, switches-read, line-read}
+use Rattle.tables.proofs.Passes.{Fitting, line-fits, line-sized, crossings-read, line-read}
 use Rattle.tables.proofs.lines.line_from.Statement.{statement}
 use Rattle.tables.proofs.lines.line_from.Tie as tie
 
@@ -78,7 +78,7 @@ returns c =
     let end = carried-on (s .args .cursor) (row s + s .args .shape .switches) there (row s) (written .addresses2 .ensures .0) in
     record {
       moved = end ∙ ap (onward (s .args .cursor)) (fits-known s .all);
-      switching = switches-read _ _ file (s .args .cursor) same (r .addresses .ensures .0) (d .sources .ensures .1);
+      counted = λ t stands. crossings-read _ _ file (s .args .cursor) same (r .addresses .ensures .0) t stands (d .sources .ensures .1);
       line = λ t stands. line-read _ _ file (s .args .cursor) same (r .addresses .ensures .0) t (d .sources .ensures .0) stands (r .addresses .ensures .1)
           (d .sources .ensures .2) (written .addresses2 .ensures .1);
     }

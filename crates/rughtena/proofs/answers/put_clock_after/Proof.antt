@@ -1,10 +1,10 @@
--- `answers::move_on` meets its contract: the next clock is put, and after a refusal the numbers already are those of the clock.
+-- `answers::put_clock_after` meets its contract: the next clock is put, and after a refusal the numbers already are those of the clock.
 use mathlib.Core.Path.{sym}
 use borrow.Author.Needs.{needs}
 use Rattle.machine.specs.Machine.{clockAfter}
 use Rattle.rughtena.proofs.Clocks.{clock-kept}
-use Rattle.rughtena.proofs.answers.move_on.Statement.{statement}
-use Rattle.rughtena.proofs.answers.move_on.Tie as tie
+use Rattle.rughtena.proofs.answers.put_clock_after.Statement.{statement}
+use Rattle.rughtena.proofs.answers.put_clock_after.Tie as tie
 
 enum-known-core : tie.Need-enum-known-core
 enum-known-core c = search needs
@@ -33,8 +33,8 @@ returns-3 : tie.Need-returns-3
 unfolding clockAfter
 returns-3 c = rw (c .enum-told .given .1) (sym (clock-kept (c .before .before .args .numbers .now)))
 
-pub move-on-spec : {M : Type 1} → statement M
-move-on-spec =
+pub put-clock-after-spec : {M : Type 1} → statement M
+put-clock-after-spec =
     tie.close
     (tie.spec
     enum-known-core
