@@ -14,7 +14,7 @@ use lib.ListN.{length, getD, set, take, length-set, List·getD-eq-default}
 use lib.Pow.{high, low, mod-pow-add, pow-add, pow-mono, pow-pos, shl-shr, shr-shr}
 use lib.Seq.{ext-getD, getD-take, getD-set-same, getD-set-other, set-out}
 use Rattle.bits.specs.Bits.{Bytes, digit, withDigits, bit, field, putBit, putField}
-use Rattle.bits.specs.Reading.{mostField, WithZeros}
+use Rattle.bits.specs.inner.Taking.{mostField, WithZeros}
 use Rattle.bits.proofs.Digits.{digit-lt, digit-zero, digit-div, digit-high, digits-ext, digit-withDigits-inside, digit-withDigits-below, digit-withDigits-above, withDigits-lt}
 
 -- ---- bits

@@ -5,7 +5,7 @@ ghost use mathlib.Core.Path.{_≡_};
 ghost use Prim.Native.Nat.{_+_, _*_, _^_, _<_, _≤_};
 ghost use lib.ListN.{length, getD, set};
 ghost use Rattle.bits.specs.Bits.{withDigits, field, putField};
-ghost use Rattle.bits.specs.Reading.{mostField, WithZeros};
+ghost use Rattle.bits.specs.inner.Taking.{mostField, WithZeros};
 ghost use Rattle.bits.specs.inner.Window.{windowOf, putWindow};
 
 mod reader;

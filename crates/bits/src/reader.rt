@@ -4,7 +4,8 @@
 ghost use mathlib.Core.Path.{_≡_};
 ghost use Prim.Native.Nat.{_≤_};
 ghost use lib.ListN.{length};
-ghost use Rattle.bits.specs.Reading.{mostField, Room, onward, fieldBehind, takenFrom};
+ghost use Rattle.bits.specs.Reading.{onward, takenFrom};
+ghost use Rattle.bits.specs.inner.Taking.{mostField, Room, fieldBehind};
 use crate::digits_at;
 
 // Where a reader stands. The two numbers move on together, so what was handed out is what the position moved by (`one-pass`).

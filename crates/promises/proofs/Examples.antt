@@ -31,7 +31,7 @@ use Rattle.machine.specs.Devices.{run}
 use Rattle.machine.specs.Step.{spot, fresh, nextFrame, nextClock, leaving, moving, entering, movedCrossings, advanceOf, saysOf, accepted, bufferTest, clockTest, lineTest, stepLine, stepOpened, stepOf}
 use Rattle.machine.specs.Machine.{said, clockAfter, carded, machine, advanceValues, stepReply}
 use Rattle.machine.specs.Plain.{empty, given, took, turned, plain}
-use Rattle.promises.specs.Power.{reported, answerTo, answers}
+use Rattle.promises.specs.Power.{replies, cardReply, reported}
 use Rattle.promises.specs.Questions.{generationOf, answer}
 use Rattle.promises.specs.Examples.{examples, ExamplesHold}
 
@@ -43,7 +43,7 @@ unfolding ifLt ifLe ifEq any sum is hits tabulate overwrite joined inverse digit
     readStrays carryStrays writeStrays wordOf portOf writeOf lineOf setBits setOf portAt barred tried finishes misses firstTest readFault
     writeFault scanLines imageOf readLines readOpened readOf readingReply scratchNeed lentTest checksOf generationReply run spot fresh nextFrame
     nextClock leaving moving entering movedCrossings advanceOf saysOf accepted bufferTest clockTest lineTest stepLine stepOpened stepOf said clockAfter carded
-    machine advanceValues stepReply reported answerTo answers empty given took turned plain answer examples
+    machine advanceValues stepReply replies cardReply reported empty given took turned plain answer examples
 examples-hold = refl
 
 -- the answer of generating, by its contract

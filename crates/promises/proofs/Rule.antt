@@ -3,7 +3,7 @@
 -- none, and a network set so performs its permutation. That the rule's words have one setting is shown in crate network.
 use Prim.Native.Nat.{ℕ, zero, _+_, _%_, _^_, _<_, _≤_}
 use mathlib.Core.Path.{_≡_, refl, sym, ap, subst, _∙_}
-use mathlib.Core.List.{List}
+use mathlib.Core.List.{List, [], _∷_}
 use native.Mathlib.Omega.{arith}
 use lib.ListN.{length, getD}
 use Rattle.laws.specs.Choice.{ifLt}
@@ -12,6 +12,7 @@ use Rattle.laws.specs.Permutation.{Permutes}
 use Rattle.laws.proofs.Choices.{ifLt-no, ifLe-no, ifLt-cases, zero-not-one}
 use Rattle.laws.proofs.Tabulates.{tabulate-ext, tabulate-getD, length-overwrite, getD-overwrite}
 use Rattle.laws.proofs.Permutations.{permutes-ext}
+use Rattle.refusal.specs.Replies.{accepts, refusalReply}
 use Rattle.images.specs.Images.{checkOf, orderOf}
 use Rattle.images.specs.declared.Checked.{Checked}
 use Rattle.images.specs.declared.Checked.the-variants.{Permutation, Refused as Unfit}
@@ -27,10 +28,11 @@ use Rattle.network.proofs.Unique.{rule-ext, rule-setting}
 use Rattle.network.proofs.Performs.{setting-performs, setting-bit}
 use Rattle.network.proofs.Keeps.{keeps-setting, setting-keeps}
 use Rattle.network.proofs.Carried.{carried-permutes, carried-ext}
-use Rattle.setting.specs.Calls.{SetOutcome, setOutcome, written, settingOf}
+use Rattle.setting.specs.Calls.{SetOutcome, setOutcome, written, settingOf, settingReply}
 use Rattle.setting.specs.declared.Settled.{Settled}
-use Rattle.setting.specs.declared.Setting.the-variants.{Written}
-use Rattle.passing.specs.Calls.{firstBad, passageOf, followOf}
+use Rattle.setting.specs.declared.Setting.{Setting}
+use Rattle.setting.specs.declared.Setting.the-variants.{Written, Refused}
+use Rattle.passing.specs.Calls.{firstBad, passageOf, followOf, followedReply}
 use Rattle.passing.specs.declared.following.Followed.the-variants.{Line}
 use Rattle.passing.proofs.Values.{first-none}
 use Rattle.tables.specs.Terms.{Dims, cycles, depth, switchBits}
@@ -97,7 +99,7 @@ set-tells width images values values′ settled =
     checked few room (Unfit r) h e = absurd (zero-not-one cc)
     checked few room Permutation h e = record { few = few; room = room; permutes = check-permutes images width h; values-are = cc }
 
-pub set-followed : (width : ℕ) (images values values′ : List ℕ) (settled : Settled)
+set-followed : (width : ℕ) (images values values′ : List ℕ) (settled : Settled)
     → settingOf width images values ≡ setOutcome (Written settled) values′
     → (x : ℕ) → x < width → followOf width values′ x
     ≡ Line (record { line = orderOf width images x; crossed = crossings (depthOf width) (λ i. getD values′ i 0) })
@@ -122,10 +124,20 @@ set-followed width images values values′ settled h x l =
     (ifLt-no (firstBad values′ B 0) B _ _ _ (omega arith)
     (ifLe-no width x _ _ _ l (ap (λ (k : ℕ). Line (record { line = k; crossed = crossings d (λ i. getD values′ i 0) })) (sym goes))))))
 
+-- the same, by the values of the replies
+replies-followed : (width count : ℕ) (images values values′ : List ℕ) (answer : Setting)
+    → settingOf width images values ≡ setOutcome answer values′ → settingReply answer ≡ accepts (count ∷ [])
+    → (x : ℕ) → x < width
+    → followedReply (followOf width values′ x) ≡ accepts (orderOf width images x ∷ crossings (depthOf width) (λ i. getD values′ i 0) ∷ [])
+unfolding settingReply followedReply refusalReply
+replies-followed width count images values values′ (Written settled) h e x l =
+    ap followedReply (set-followed width images values values′ settled h x l)
+replies-followed width count images values values′ (Refused r) h e x l = absurd (zero-not-one cc)
+
 pub by-rule : ByRule
 by-rule = record {
   generated = generated-by-rule;
-  followed = set-followed;
+  followed = replies-followed;
   only = keeps-setting;
   kept = setting-keeps;
   rule = λ d p bits P. (rule-setting d p bits P, λ e. subst (Rule d p) (sym e) (setting-rule d p P));

@@ -24,7 +24,7 @@ use Rattle.machine.specs.Step.{fresh, StepOutcome, stepOutcome, stepOf}
 use Rattle.machine.specs.Machine.{Card, machine, stepReply}
 use Rattle.machine.specs.Plain.{plain, empty}
 use Rattle.machine.specs.declared.Clock.{Clock}
-use Rattle.promises.specs.Power.{reported, answers}
+use Rattle.promises.specs.Power.{replies, cardReply, reported}
 
 pub data Question : Type 0 where
   -- generating for n, w and images, with so many bytes for the file and so many scratch words
@@ -106,7 +106,7 @@ answer (switchLines n w file) = lines (tabulate (cycles n w) (λ t. tabulate (sw
 answer (writeLines n w file) = lines (tabulate (cycles n w) (λ t. tabulate w (writeAddress n w file t)))
 answer (measuring n w) = long (fileLength n w)
 answer (counting n w) = long (setLineBits n w)
-answer (reporting file size steps) = counts (map reported (answers file (zeroCard size) steps))
+answer (reporting file size steps) = counts (map reported (replies (cardReply file) (machine file) (zeroCard size) steps))
 
 pub record Example : Type 0 where
   pub question : Question

@@ -2,22 +2,21 @@
 -- line"). Over `Generates`, `settingOf` and `followOf`, which the contracts of `generator::generate`, `setting::set` and `passing::follow` cite.
 use Prim.Native.Nat.{ℕ, _%_, _^_, _<_}
 use mathlib.Core.Path.{_≡_}
-use mathlib.Core.List.{List}
+use mathlib.Core.List.{List, [], _∷_}
 use mathlib.Core.Logic.{_↔_}
 use lib.ListN.{length, getD, take}
 use Rattle.laws.specs.Tabulate.{tabulate}
 use Rattle.laws.specs.Permutation.{Permutes}
+use Rattle.refusal.specs.Replies.{accepts}
 use Rattle.images.specs.Images.{orderOf}
 use Rattle.network.specs.Network.{bitCount, depthOf, crossings}
 use Rattle.network.specs.Rule.{Rule}
 use Rattle.network.specs.Keeps.{Keeps}
 use Rattle.network.specs.Setting.{setting}
 use Rattle.network.specs.Carried.{carried}
-use Rattle.setting.specs.Calls.{setOutcome, settingOf}
-use Rattle.setting.specs.declared.Settled.{Settled}
-use Rattle.setting.specs.declared.Setting.the-variants.{Written}
-use Rattle.passing.specs.Calls.{followOf}
-use Rattle.passing.specs.declared.following.Followed.the-variants.{Line}
+use Rattle.setting.specs.Calls.{setOutcome, settingOf, settingReply}
+use Rattle.setting.specs.declared.Setting.{Setting}
+use Rattle.passing.specs.Calls.{followOf, followedReply}
 use Rattle.tables.specs.Terms.{cycles, depth, switchBits, fileLength, padded}
 use Rattle.tables.specs.Format.{switchBit}
 use Rattle.tables.specs.Datapath.{source}
@@ -49,10 +48,10 @@ GeneratedByRule = (n w : ℕ) (images file scratch : List ℕ) (answer : Generat
 pub record ByRule : Type 0 where
   pub generated : GeneratedByRule
   -- what an accepted call of `set` writes sends each line, followed by `follow`, to its image; the crossed switches are those of what was written
-  pub followed : (width : ℕ) (images values values′ : List ℕ) (settled : Settled)
-      → settingOf width images values ≡ setOutcome (Written settled) values′
-      → (x : ℕ) → x < width → followOf width values′ x
-      ≡ Line (record { line = orderOf width images x; crossed = crossings (depthOf width) (λ i. getD values′ i 0) })
+  pub followed : (width count : ℕ) (images values values′ : List ℕ) (answer : Setting)
+      → settingOf width images values ≡ setOutcome answer values′ → settingReply answer ≡ accepts (count ∷ [])
+      → (x : ℕ) → x < width
+      → followedReply (followOf width values′ x) ≡ accepts (orderOf width images x ∷ crossings (depthOf width) (λ i. getD values′ i 0) ∷ [])
   -- "this makes the setting unique": any bits of 0 and 1 that perform p and keep the rule's words are the setting
   pub only : (d : ℕ) (p bits : ℕ → ℕ) → Keeps d p bits → tabulate (bitCount d) bits ≡ setting d p
   -- and the setting is such

@@ -6,7 +6,8 @@ use mathlib.Core.List.{List}
 use native.Mathlib.Nat.{zero-add, zero-mul, suc-mul}
 use native.Mathlib.Numerals.{add-one}
 use native.Mathlib.Omega.{arith}
-use Rattle.bits.specs.Reading.{Room, onward}
+use Rattle.bits.specs.Reading.{onward}
+use Rattle.bits.specs.inner.Taking.{Room}
 use Rattle.bits.specs.declared.reader.Cursor.{Cursor}
 use Rattle.bits.proofs.OnePass.{onward-none, onward-onward}
 use Rattle.tables.specs.Terms.{Dims, cycles, lineBits, setLineBits}

@@ -46,7 +46,7 @@ outcome-agrees numbers three (lent answer clock first second out) = record {
   };
 }
 
-step-agrees : (file : List ℕ) (board : Board) (card : Card) (x : Feed) → Beside board card
+pub step-agrees : (file : List ℕ) (board : Board) (card : Card) (x : Feed) → Beside board card
     → Agree Beside (exportedMachine file board x) (lentMachine file card x)
 unfolding exportedMachine lentMachine exportedStep
 step-agrees file board card (feed words out) B =

@@ -4,7 +4,8 @@ use mathlib.Core.Path.{_≡_, ap, _∙_}
 use mathlib.Core.List.{List}
 use native.Mathlib.Omega.{arith}
 use Rattle.bits.specs.Bits.{field}
-use Rattle.bits.specs.Reading.{Room, onward, fieldBehind}
+use Rattle.bits.specs.Reading.{onward}
+use Rattle.bits.specs.inner.Taking.{Room, fieldBehind}
 use Rattle.bits.specs.declared.reader.Cursor.{Cursor}
 use Rattle.bits.specs.declared.reader.Field.{Field}
 use Rattle.bits.proofs.OnePass.{onward-onward}

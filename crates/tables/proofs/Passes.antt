@@ -12,7 +12,8 @@ use Rattle.limits.specs.Limits.{mostWidth, mostSwitches}
 use Rattle.laws.specs.Sum.{sum, is, hits}
 use Rattle.laws.proofs.Sums.{is-bit}
 use Rattle.bits.specs.Bits.{bit}
-use Rattle.bits.specs.Reading.{WithZeros, onward}
+use Rattle.bits.specs.Reading.{onward}
+use Rattle.bits.specs.inner.Taking.{WithZeros}
 use Rattle.bits.specs.declared.reader.Cursor.{Cursor}
 use Rattle.bits.proofs.Fields.{bit-lt, bit-zeros, field-zeros}
 use Rattle.network.specs.Network.{bitCount, leaves, crossings}

@@ -38,7 +38,8 @@ use denote.Triple.Entry.{Vals, onEntry}
 use denote.Triple.Spec.{Meets, tripleOf}
 use denote.Triple.Table.{entered, cited}
 use denote.Triple.Walked.{says, needs, Stays, walkOf, Walks, ends-at, walked, walk-meets}
-use Rattle.bits.specs.Reading.{mostField, Room, fieldBehind, takenFrom}
+use Rattle.bits.specs.Reading.{takenFrom}
+use Rattle.bits.specs.inner.Taking.{mostField, Room, fieldBehind}
 use Rattle.bits.specs.declared.reader.Cursor.{Cursor}
 use Rattle.bits.specs.declared.reader.Field.{Field}
 use Rattle.bits.specs.declared.reader.Reader.{Reader}

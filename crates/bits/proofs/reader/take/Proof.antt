@@ -42,7 +42,8 @@ use denote.Triple.Spec.{Meets, tripleOf}
 use denote.Triple.Table.{entered, cited}
 use denote.Triple.Walked.{says, needs, Stays, walkOf, Walks, ends-at, walked, walk-meets}
 use Rattle.bits.specs.Bits.{field}
-use Rattle.bits.specs.Reading.{mostField, Room, onward}
+use Rattle.bits.specs.Reading.{onward}
+use Rattle.bits.specs.inner.Taking.{mostField, Room}
 use Rattle.bits.specs.declared.reader.Cursor.{Cursor}
 use Rattle.bits.specs.declared.reader.Reader.{Reader}
 use Rattle.bits.specs.declared.reader.Taken.{Taken}

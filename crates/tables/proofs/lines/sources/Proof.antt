@@ -113,10 +113,16 @@ returns-2 c =
 number-requires : tie.Need-number-requires
 number-requires c κs = search needs
 
+-- there is more than one switch
+many : (c : tie.After-ones-arg) → 1 < start (numbered (c .before .before .before)) .args .count
+many c =
+    let d = c .before .before .before in
+    omega (arith, d .before .before .if2 .left, numbered d .before .before .if1 .left)
+
 ones-requires : tie.Need-ones-requires
 ones-requires c κs =
     let d = numbered (c .before .before .before) in
-    ((setting-long d, start d .pre .1 .2), found-lt d)
+    ((omega (arith, setting-long d, many c), omega (arith, start d .pre .1, many c)), λ i l. found-lt d i (omega (arith, many c)))
 
 slice-reshare-prefix-route : tie.Need-slice-reshare-prefix-route
 slice-reshare-prefix-route c = search needs

@@ -7,7 +7,8 @@ use borrow.Author.Needs.{needs}
 use Rattle.limits.specs.Limits.{mostSwitches}
 use Rattle.laws.proofs.Tabulates.{Filling}
 use Rattle.bits.specs.Bits.{bit}
-use Rattle.bits.specs.Reading.{mostField, onward}
+use Rattle.bits.specs.Reading.{onward}
+use Rattle.bits.specs.inner.Taking.{mostField}
 use Rattle.bits.proofs.OnePass.{onward-none}
 use Rattle.tables.proofs.Cursors.{room-behind, field-behind}
 use Rattle.tables.proofs.Scans.{filling-spread}
