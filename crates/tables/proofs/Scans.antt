@@ -1,14 +1,16 @@
--- The loops that read lines: a scan that meets what it looks for, or passes it; and the switch bits that are taken 16 at a time, as the
+-- The loops that read lines: a scan that meets what it looks for, or passes it; and the switch bits that are taken many at a time, as the
 -- digits of a field.
-use Prim.Native.Nat.{ℕ, suc, _+_, _-_, _<_, _≤_}
+use Prim.Native.Nat.{ℕ, suc, _+_, _-_, _/_, _%_, _^_, _<_, _≤_}
 use mathlib.Core.Path.{_≡_, refl, sym, ap, _∙_}
 use mathlib.Core.Bool.{true, false}
 use mathlib.Core.List.{List}
+use native.Mathlib.Nat.{div-one, pow-zero}
 use native.Mathlib.Omega.{arith}
 use native.Mathlib.Decide.{ℕ-discrete, decLt}
 use borrow.Author.Tests.{lt-ltb, le-ltb, le-leb, lt-leb}
 use lib.Dec.{leb}
 use lib.ListN.{length, getD, set, length-set}
+use lib.Pow.{shr-shr}
 use lib.Seq.{getD-set-same, getD-set-other}
 use Rattle.limits.specs.Limits.{mostSwitches}
 use Rattle.laws.specs.Any.{any}
@@ -68,25 +70,44 @@ spare-all {sources} {width} {y} lines S l =
 
 -- ---- bits
 
--- the first j of the k digits that are put
-pub record Spreading (number k from j : ℕ) (before after : List ℕ) : Type 0 where
+-- the digits from j on are put, of k; `rest` has the digits before them
+pub record Spreading (number k from rest j : ℕ) (before after : List ℕ) : Type 0 where
+  pub some : j ≤ k
+  pub left : rest ≡ number / 2 ^ (k - j)
   pub long : length after ≡ length before
-  pub here : (i : ℕ) → i < j → getD after (from + i) 0 ≡ digit number (k - suc i)
+  pub here : (i : ℕ) → j ≤ i → i < k → getD after (from + i) 0 ≡ digit number (k - suc i)
   pub below : (i : ℕ) → i < from → getD after i 0 ≡ getD before i 0
 
-pub spreading-none : (number k from : ℕ) (xs : List ℕ) → Spreading number k from 0 xs xs
-spreading-none number k from xs = record { long = refl; here = λ i l. absurd (omega arith); below = λ i l. refl }
+pub spreading-none : (number k from : ℕ) (xs : List ℕ) → Spreading number k from number k xs xs
+spreading-none number k from xs =
+    let none : k - k ≡ 0 = omega arith in
+    record {
+      some = omega arith;
+      left = sym (rw (none, pow-zero) (div-one number));
+      long = refl;
+      here = λ i m l. absurd (omega arith);
+      below = λ i l. refl;
+    }
 
-pub spreading-more : {number k from j v : ℕ} {before xs : List ℕ} → Spreading number k from j before xs → from + j < length xs
-    → v ≡ digit number (k - suc j) → Spreading number k from (j + 1) before (set xs (from + j) v)
-spreading-more {number} {k} {from} {j} {v} {before} {xs} S l e = record {
-  long = length-set xs (from + j) v ∙ S .long;
-  here = λ i m. elim (ℕ-discrete i j) [
-    | yes q ↦ rw q (getD-set-same xs (from + j) v 0 l ∙ e)
-    | no ne ↦ getD-set-other xs (from + j) (from + i) v 0 (λ q. ne (omega arith)) ∙ S .here i (omega arith)
-  ];
-  below = λ i m. getD-set-other xs (from + j) i v 0 (λ q. omega arith) ∙ S .below i m;
-}
+pub spreading-more : {number k from rest j : ℕ} {before xs : List ℕ} → Spreading number k from rest j before xs → 0 < j → from + k ≤ length xs
+    → Spreading number k from (rest / 2) (j - 1) before (set xs (from + (j - 1)) (rest % 2))
+unfolding digit
+spreading-more {number} {k} {from} {rest} {j} {before} {xs} S some l =
+    let y = from + (j - 1) in
+    let v = rest % 2 in
+    let next : k - j + 1 ≡ k - (j - 1) = omega (arith, S .some) in
+    let put : y < length xs = omega (arith, S .some) in
+    let at : k - j ≡ k - suc (j - 1) = omega (arith, S .some) in
+    record {
+      some = omega (arith, S .some);
+      left = ap (λ (x : ℕ). x / 2) (S .left) ∙ shr-shr number (k - j) 1 ∙ ap (λ (e : ℕ). number / 2 ^ e) next;
+      long = length-set xs y v ∙ S .long;
+      here = λ i m b. elim (ℕ-discrete i (j - 1)) [
+        | yes q ↦ rw q (getD-set-same xs y v 0 put ∙ ap (λ (x : ℕ). x % 2) (S .left) ∙ ap (λ (e : ℕ). number / 2 ^ e % 2) at)
+        | no ne ↦ getD-set-other xs y (from + i) v 0 (λ q. ne (omega arith)) ∙ S .here i (omega arith) b
+      ];
+      below = λ i m. getD-set-other xs y i v 0 (λ q. omega arith) ∙ S .below i m;
+    }
 
 -- the digits of a field are bits of the file
 pub filling-spread : {before after : List ℕ} {number k i : ℕ} (file : List ℕ) (at : ℕ) → Filling (λ j. bit file (at + j)) mostSwitches i before

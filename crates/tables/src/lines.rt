@@ -38,15 +38,18 @@ fn addresses(file: &[u8], cursor: Cursor, address: usize, count: usize, found: &
     next
 }
 
-// Puts the `count` binary digits of a number from `found[from]` on, the highest first.
+// Puts the `count` binary digits of a number from `found[from]` on, the highest first. It begins with the lowest and halves the number, since a compiler
+// makes more instructions of a shift by another count at each turn.
 fn spread(number: u64, count: usize, found: &mut [u8], from: usize)
     requires { ⌜ (count ≤ mostField) × (from + count ≤ length (now found)) × (from < 2 ^ 32) ⌝ }
     ensures { λ _. ⌜ Spread number count from (now (found .entry)) (now (found .exit)) ⌝ }
 {
-    let mut j = 0;
-    while j < count {
-        found[from + j] = ((number >> (count - 1 - j)) % 2) as u8;
-        j += 1;
+    let mut rest = number;
+    let mut j = count;
+    while 0 < j {
+        j -= 1;
+        found[from + j] = (rest % 2) as u8;
+        rest /= 2;
     }
 }
 

@@ -1,61 +1,51 @@
--- `lines::spread` meets its contract: turn j puts digit j.
-use Prim.Native.Nat.{suc, _-_, _≤_}
-use mathlib.Core.Path.{_≡_, refl}
+-- `lines::spread` meets its contract: the turn that leaves j puts digit j, the lowest of what is left of the number, and halves that.
 use native.Mathlib.Omega.{arith}
 use borrow.Author.Needs.{needs}
-use Rattle.bits.specs.Bits.{digit}
+use lib.ListN.{length}
+use Prim.Native.Nat.{_+_, _≤_}
 use Rattle.tables.proofs.Scans.{Spreading, spreading-none, spreading-more}
 use Rattle.tables.proofs.lines.spread.Statement.{statement}
 use Rattle.tables.proofs.lines.spread.Tie as tie
 
 abbrev Inv-loop : tie.InvT-loop
-Inv-loop number count found₀ from j₀ found j = (j ≤ count) × Spreading number count from j found₀ found
+Inv-loop number count found₀ from rest₀ j₀ found rest j = Spreading number count from rest j found₀ found
 
 abbrev μ-loop : tie.MeasureT-loop
-μ-loop number count found₀ from j₀ found j = count - j
+μ-loop number count found₀ from rest₀ j₀ found rest j = j
 
 loop-holds : tie.Need-loop-holds Inv-loop μ-loop
-loop-holds c = (omega arith, spreading-none _ _ _ _)
+loop-holds c = spreading-none _ _ _ _
 
-sub-found : tie.Need-sub-found Inv-loop μ-loop
-sub-found c = search needs
-
-sub-found-2 : tie.Need-sub-found-2 Inv-loop μ-loop
-sub-found-2 c = search needs
-
-shr-found : tie.Need-shr-found Inv-loop μ-loop
-shr-found c = search needs
+sub-j : tie.Need-sub-j Inv-loop μ-loop
+sub-j c = search needs
 
 cast-found : tie.Need-cast-found Inv-loop μ-loop
 cast-found c = search needs
 
+-- all digits have room
+room : (c : tie.In-loop Inv-loop μ-loop) → let s = c .before .before in
+    s .args .from + s .args .count ≤ length (c .before .loop .found)
+room c = omega (arith, c .before .loop .inv .long, c .before .before .pre)
+
 add-found : tie.Need-add-found Inv-loop μ-loop
-add-found c = search needs
+add-found c = record { fits = omega (arith, c .before .loop .inv .some, c .before .before .pre) }
 
 slice-write-found : tie.Need-slice-write-found Inv-loop μ-loop
-slice-write-found c = omega (arith, c .before .loop .inv .1 .long, c .before .before .pre)
-
-add-j : tie.Need-add-j Inv-loop μ-loop
-add-j c = search needs
+slice-write-found c = omega (arith, room c, c .before .loop .inv .some, c .loop-test .taken)
 
 loop-less : tie.Need-loop-less Inv-loop μ-loop
 loop-less c = omega arith
 
 loop-again : tie.Need-loop-again Inv-loop μ-loop
-unfolding digit
-loop-again c =
-    let s = c .before .before in
-    let j = c .before .loop .j in
-    let e : s .args .count - 1 - j ≡ s .args .count - suc j = omega arith in
-    (omega arith, spreading-more (c .before .loop .inv .1) (omega (arith, c .before .loop .inv .1 .long, s .pre)) (rw e refl))
+loop-again c = spreading-more (c .before .loop .inv) (c .loop-test .taken) (room c)
 
 same-length : tie.Need-same-length Inv-loop μ-loop
-same-length c = c .before .loop .inv .1 .long
+same-length c = c .before .loop .inv .long
 
 returns : tie.Need-returns Inv-loop μ-loop
 returns c =
-    let S = c .before .loop .inv .1 in
-    record { long = S .long; here = λ j l. S .here j (omega (arith, c .loop-test .left)); below = S .below }
+    let S = c .before .loop .inv in
+    record { long = S .long; here = λ i l. S .here i (omega (arith, c .loop-test .left)) l; below = S .below }
 
 pub spread-spec : {M : Type 1} → statement M
 spread-spec =
@@ -64,13 +54,10 @@ spread-spec =
     Inv-loop
     μ-loop
     loop-holds
-    sub-found
-    sub-found-2
-    shr-found
+    sub-j
     cast-found
     add-found
     slice-write-found
-    add-j
     loop-less
     loop-again
     same-length
