@@ -159,7 +159,7 @@ fn main() {
         row("stride 2", w, &stride(n, 2));
     }
     // 1,000 words at width 16 are extended to 1,008
-    for (n, w) in [(1000, 8), (1000, 16), (4095, 63)] {
+    for (n, w) in [(4095, 3), (1000, 8), (1000, 16), (4000, 32), (4095, 63)] {
         row("random", w, &random.order(n));
         row("identity", w, &identity(n));
         row("stride 5", w, &stride(n, 5));
