@@ -1,6 +1,7 @@
 -- The two reports of crossed switches are tied together. An accepted step with a frame to move reports the crossed switches of the clock's line and
 -- moves the clock to the next one; a refused step reports none and leaves the clock. So k accepted steps from line t on, within the frame, report
--- those of the lines t .. t + k - 1, and with t = 0 and k = c these are all lines, whose sum reading reports.
+-- those of the lines t .. t + k - 1, and with t = 0 and k = c these are all lines, whose sum reading reports. The step on a lent clock and the one that
+-- C calls stay beside this one, and their replies count the same at each step, so the same holds of them.
 use Prim.Native.Nat.{ℕ, zero, _+_, _<_, _≤_}
 use mathlib.Core.Path.{_≡_, refl, sym, ap, ap₂, subst, subst₂, _∙_}
 use mathlib.Core.List.{List, [], _∷_, map}
@@ -208,18 +209,18 @@ exported-same file board card (feed words out) B =
 -- ---- beside reading
 
 -- what an accepted reading tells of its file
-record Told (file : List ℕ) (n w crossed : ℕ) : Type 0 where
+record Tells (file : List ℕ) (n w crossed : ℕ) : Type 0 where
   opened : openOf file ≡ Set (shapeOf n w)
   counted : crossed ≡ setCrossings n w file
 
 reading-tells : (file images scratch images′ : List ℕ) (n w bits crossed : ℕ)
-    → toldOf (readOf file images scratch) ≡ told (accepts (n ∷ w ∷ bits ∷ crossed ∷ [])) images′ → Told file n w crossed
+    → toldOf (readOf file images scratch) ≡ told (accepts (n ∷ w ∷ bits ∷ crossed ∷ [])) images′ → Tells file n w crossed
 unfolding toldOf readingReply refusalReply
 reading-tells file images scratch images′ n w bits crossed h =
     ⊎-elim accepted-tells (λ r. absurd (zero-not-one (cc (ap toldOf (r .1))))) (read-cases file images scratch)
   where
     accepted-tells : (m : ℕ) × (v : ℕ) × (out : List ℕ) × (readOf file images scratch ≡ readAs m v file out) × Performed file images scratch m v out
-        → Told file n w crossed
+        → Tells file n w crossed
     accepted-tells r =
         let m = r .0 in
         let v = r .1 in
@@ -227,7 +228,7 @@ reading-tells file images scratch images′ n w bits crossed h =
         let words : m ≡ n = cc e in
         let width : v ≡ w = cc e in
         let sums : setCrossings m v file ≡ crossed = cc e in
-        subst₂ (λ (k u : ℕ). Told file k u crossed) words width (record { opened = r .4 .opened; counted = sym sums })
+        subst₂ (λ (k u : ℕ). Tells file k u crossed) words width (record { opened = r .4 .opened; counted = sym sums })
 
 pub power-report : PowerReport
 unfolding Reports
@@ -245,12 +246,12 @@ power-report file images scratch images′ n w bits crossed h =
       most = rw (T .counted) (crossings-most n w file _);
     }
   where
-    frame : Told file n w crossed → (card : Card) → BeginsFrame (card .clock) → (steps : List Feed)
+    frame : Tells file n w crossed → (card : Card) → BeginsFrame (card .clock) → (steps : List Feed)
         → Adds (replies (cardReply file) (machine file) card steps) (cycles n w) crossed
     frame T card B steps all =
         steps-report n w file (T .opened) steps card 0 (cycles n w) (B .first) (B .held) (omega arith) all ∙ from-all n w file ∙ sym (T .counted)
 
-    frame-lent : Told file n w crossed → (card : Card) → BeginsFrame (card .clock) → (steps : List Feed)
+    frame-lent : Tells file n w crossed → (card : Card) → BeginsFrame (card .clock) → (steps : List Feed)
         → Adds (replies (lentReply file) (lentMachine file) card steps) (cycles n w) crossed
     frame-lent T card B steps =
         same-adds (lentMachine file) (machine file) (lentReply file) (cardReply file) _≡_ (lent-stays file) (lent-same file) card card refl steps
