@@ -6,8 +6,10 @@
  * position-independent program. It calls memcpy and memset and nothing else, and has no writable data, so it runs without an operating
  * system where those two are there.
  *
- * Stack memory, whatever n and w are (measured, with some room; docs/PERFORMANCE.md has the figures):
+ * Stack memory, whatever w is (measured, with some room; docs/PERFORMANCE.md has the figures), for sets of up to 4,096 words:
  *    rughtena_generate 24 KiB, rughtena_read 19 KiB, rughtena_set 7 KiB, rughtena_follow 1 KiB, rughtena_step 3 KiB
+ * and for longer ones:
+ *    rughtena_generate 37 KiB, rughtena_read 68 KiB, rughtena_step 3 KiB
  * A dynamic linker that looks memcpy and memset up when they are first called needs stack for that too, 3 KiB where it was measured; a program
  * linked with -z now has none of it.
  *
@@ -16,12 +18,17 @@
  * call writes overlaps nothing else that the call is lent. No call keeps a pointer, allocates, or has state of its own, so calls may
  * run at the same time on memory of their own.
  *
- * Terms: n words in a frame, 1 to 4,096; w words enter in each cycle, 1 to 64; word i leaves at place images[i]. Padded n (document 02 calls
+ * Terms: n words in a frame, 1 to 16,384; w words enter in each cycle, 1 to 64; word i leaves at place images[i]. Padded n (document 02 calls
  * it the longer n): the least multiple of w that is n or more. A frame takes whole cycles, so generating, which is given the n of an order,
  * makes a set of the padded n, in which each word from n on keeps its place. The n of a set is a padded one, and w divides it. c = padded
  * n / w cycles in a frame. a: the bits of an address, the least whole number with 2^a at least c (0 when c is 1). B: the switch bits of a
  * network whose lines are the least power of two not below w. Line t of a set: its addresses and switch bits for cycle t. A switch is
  * crossed where its bit is 1; the last output switch of a network has no bit, stands straight and is not counted.
+ *
+ * Forms. A set of up to 4,096 words has the short form: n in 13 bits, w in 7 bits, four zero bits, then the lines. A set of more words has the
+ * long form: 13 zero bits, w in 7 bits, the four bits 0001, n in 16 bits, then the lines. So every set has one form, by its n. A header is in
+ * the long form where its first 13 bits are zero and its four last ones 0001, and in the short form otherwise. A loader that knows the short
+ * form alone refuses every long set by 7, since its 13 bits say n 0.
  *
  * Refusals. A refused call alters no lent word, scratch included. Its number says why (enum rughtena_refusal), its place where (0 if the
  * number names none).
@@ -38,16 +45,19 @@ extern "C" {
 
 /* The version of this header. RUGHTENA_VERSION is one number, which grows with each version. */
 #define RUGHTENA_VERSION_MAJOR 0
-#define RUGHTENA_VERSION_MINOR 7
+#define RUGHTENA_VERSION_MINOR 8
 #define RUGHTENA_VERSION_PATCH 0
 #define RUGHTENA_VERSION (RUGHTENA_VERSION_MAJOR * 10000 + RUGHTENA_VERSION_MINOR * 100 + RUGHTENA_VERSION_PATCH)
 
 /* The most words of a frame, and the most words of a cycle. */
-#define RUGHTENA_MOST_WORDS 4096
+#define RUGHTENA_MOST_WORDS 16384
 #define RUGHTENA_MOST_WIDTH 64
 
-/* The longest table set, in bytes: that of n 4,096 and w 1. */
-#define RUGHTENA_LONGEST_SET 12291
+/* The most words of a set in the short form. */
+#define RUGHTENA_SHORT_WORDS 4096
+
+/* The longest table set, in bytes: that of n 16,384 and w 1. */
+#define RUGHTENA_LONGEST_SET 57349
 
 /* The most switch values of a network. */
 #define RUGHTENA_MOST_SWITCHES 321
@@ -89,35 +99,40 @@ extern "C" {
               : (size_t)(width) <= 32 ? 129                                                                                      \
                                       : RUGHTENA_MOST_SWITCHES))
 
-/* a, the bits of an address, for c up to 4,096: as many as there are powers of two below c. */
+/* a, the bits of an address, for c up to 16,384: as many as there are powers of two below c. */
 #define RUGHTENA_ADDRESS_BITS(c)                                                                                                 \
     ((size_t)(((c) > 1) + ((c) > 2) + ((c) > 4) + ((c) > 8) + ((c) > 16) + ((c) > 32) + ((c) > 64) + ((c) > 128) + ((c) > 256) + \
-              ((c) > 512) + ((c) > 1024) + ((c) > 2048)))
+              ((c) > 512) + ((c) > 1024) + ((c) > 2048) + ((c) > 4096) + ((c) > 8192)))
 
 /* 2wa + B, the bits of one cycle in a table set. */
 #define RUGHTENA_CYCLE_BITS(n, w)                                                                                                \
     (2 * (size_t)(w) * RUGHTENA_ADDRESS_BITS(RUGHTENA_CYCLES(n, w)) + RUGHTENA_SWITCHES(w))
 
-/* Whether generating refuses n and w by none of 1, 2 and 3. The padded n is 0 where n or w is 0, and above 4,096 where n is. Taking off 1
+/* Whether generating refuses n and w by none of 1, 2 and 3. The padded n is 0 where n or w is 0, and above 16,384 where n is. Taking off 1
  * makes the largest number of 0, so that one comparison tests both ends. */
 #define RUGHTENA_HAS_SET(n, w)                                                                                                   \
     (RUGHTENA_FRAME(n, w) - 1 < RUGHTENA_MOST_WORDS && (size_t)(w) - 1 < RUGHTENA_MOST_WIDTH)
 
-/* The bytes of the set that generating makes for n and w, a set of the padded n: 3 + ceil(c(2wa + B) / 8); 0 where generating refuses n and w
- * by 1, 2 or 3. */
+/* The bytes of the header of that set, by its form: 3 or 5. */
+#define RUGHTENA_HEADER_BYTES(n, w) ((size_t)(RUGHTENA_FRAME(n, w) > RUGHTENA_SHORT_WORDS ? 5 : 3))
+
+/* The bytes of the set that generating makes for n and w, a set of the padded n: 3 + ceil(c(2wa + B) / 8), or 5 in place of 3 where the padded n
+ * is above 4,096; 0 where generating refuses n and w by 1, 2 or 3. */
 #define RUGHTENA_SET_LENGTH(n, w)                                                                                                \
-    (RUGHTENA_HAS_SET(n, w) ? 3 + (RUGHTENA_CYCLES(n, w) * RUGHTENA_CYCLE_BITS(n, w) + 7) / 8 : (size_t)0)
+    (RUGHTENA_HAS_SET(n, w)                                                                                                      \
+         ? RUGHTENA_HEADER_BYTES(n, w) + (RUGHTENA_CYCLES(n, w) * RUGHTENA_CYCLE_BITS(n, w) + 7) / 8                             \
+         : (size_t)0)
 
 /* The numbers of the refusals. Behind each: what it says, and the place that comes with it. */
 enum rughtena_refusal {
     RUGHTENA_ACCEPTED = 0,       /* no refusal */
-    RUGHTENA_FRAME_SIZE = 1,     /* n is 0 or above 4,096 */
+    RUGHTENA_FRAME_SIZE = 1,     /* n is 0 or above 16,384 */
     RUGHTENA_WIDTH = 2,          /* the width is 0 or above 64; for the network alone, no power of two up to 64 */
-    RUGHTENA_PADDED_SIZE = 3,    /* the padded n is above 4,096 */
+    RUGHTENA_PADDED_SIZE = 3,    /* the padded n is above 16,384 */
     RUGHTENA_OUT_OF_RANGE = 4,   /* image i is n or more; place i. A followed line is the width or more; place the line */
     RUGHTENA_REPEATED = 5,       /* image i was already an earlier one; place i */
-    RUGHTENA_FILE_SHORT = 6,     /* the file is shorter than its header, or than its header says */
-    RUGHTENA_HEADER = 7,         /* the header breaks a limit, w does not divide n, or one of its four last bits is set */
+    RUGHTENA_FILE_SHORT = 6,     /* the file is shorter than its header, of 3 or 5 bytes, or than its header says */
+    RUGHTENA_HEADER = 7,         /* the header breaks a limit of its form, w does not divide n, or its four last bits fit neither form */
     RUGHTENA_FILE_LONG = 8,      /* bytes follow the set, or a filling bit is set */
     RUGHTENA_READ_ADDRESS = 9,   /* a read address of line t is c or more, or that bank has read it before; place t */
     RUGHTENA_SPARE_LINE = 10,    /* the network of line t carries a line below w to w or above; place t */
@@ -132,9 +147,9 @@ enum rughtena_refusal {
 #define RUGHTENA_TEXT(number)                                                                                                    \
     ((const char *)(                                                                                                             \
         (number) == RUGHTENA_ACCEPTED        ? "accepted"                                                                        \
-        : (number) == RUGHTENA_FRAME_SIZE    ? "a frame has 1 to 4096 words"                                                     \
+        : (number) == RUGHTENA_FRAME_SIZE    ? "a frame has 1 to 16384 words"                                                    \
         : (number) == RUGHTENA_WIDTH         ? "the width is 1 to 64, and a power of two for the network alone"                  \
-        : (number) == RUGHTENA_PADDED_SIZE   ? "the frame, extended to a multiple of the width, has more than 4096 words"        \
+        : (number) == RUGHTENA_PADDED_SIZE   ? "the frame, extended to a multiple of the width, has more than 16384 words"       \
         : (number) == RUGHTENA_OUT_OF_RANGE  ? "an image is not below the number of elements, or a line not below the width"     \
         : (number) == RUGHTENA_REPEATED      ? "an image is that of an earlier element"                                          \
         : (number) == RUGHTENA_FILE_SHORT    ? "the file is shorter than its table set"                                          \
@@ -202,8 +217,8 @@ rughtena_answer rughtena_generate(size_t n, size_t w, const uint16_t *images, si
 /* Reads a table set; file_len is exactly its length.
  * Lent: n images, written if the set is accepted; 2n scratch words, which are not written. n is the set's, so the padded one.
  * Each line bit of the file is taken once: one pass tests the lines and gathers their images. The images are written only after the last line has
- * passed. Gives n, w, the number of line bits and the crossed switches of all c lines; the 24 bits of the header and the filling bits are not
- * counted.
+ * passed. Gives n, w, the number of line bits and the crossed switches of all c lines; the 24 or 40 bits of the header and the filling bits are
+ * not counted.
  * Refuses 6, 7, 6, 8, 12, then line by line 9, 10, 11. */
 rughtena_read_answer rughtena_read(const uint8_t *file, size_t file_len, uint16_t *images, size_t images_len,
                                    const uint16_t *scratch, size_t scratch_len);

@@ -12,6 +12,13 @@ HOLDS(shortest_set, RUGHTENA_SET_LENGTH(1, 1) == 3);
 HOLDS(set_of_twelve, RUGHTENA_SET_LENGTH(12, 3) == 12);
 HOLDS(set_of_sixty_eight, RUGHTENA_SET_LENGTH(68, 1) == 122);
 HOLDS(longest_set, RUGHTENA_SET_LENGTH(RUGHTENA_MOST_WORDS, 1) == RUGHTENA_LONGEST_SET);
+HOLDS(longest_set_in_bytes, RUGHTENA_LONGEST_SET == 57349);
+HOLDS(longest_short_set, RUGHTENA_SET_LENGTH(RUGHTENA_SHORT_WORDS, 1) == 12291);
+HOLDS(shortest_long_set, RUGHTENA_SET_LENGTH(RUGHTENA_SHORT_WORDS + 1, 1) == 13321);
+HOLDS(long_by_the_padded_words, RUGHTENA_SET_LENGTH(RUGHTENA_SHORT_WORDS, 3) == 12129);
+HOLDS(short_by_the_padded_words, RUGHTENA_SET_LENGTH(4033, RUGHTENA_MOST_WIDTH) == 8715);
+HOLDS(widest_long_sets, RUGHTENA_SET_LENGTH(4160, 64) == 9894 && RUGHTENA_SET_LENGTH(RUGHTENA_MOST_WORDS, 64) == 43045);
+HOLDS(bytes_of_the_header, RUGHTENA_HEADER_BYTES(4096, 1) == 3 && RUGHTENA_HEADER_BYTES(4096, 3) == 5);
 HOLDS(no_set_of_no_words, RUGHTENA_SET_LENGTH(0, 1) == 0);
 HOLDS(no_set_of_too_many_words, RUGHTENA_SET_LENGTH(RUGHTENA_MOST_WORDS + 1, 1) == 0);
 HOLDS(no_set_of_width_0, RUGHTENA_SET_LENGTH(12, 0) == 0);
@@ -36,6 +43,7 @@ HOLDS(most_read_scratch, RUGHTENA_READ_SCRATCH((size_t)-1 / 2) == (size_t)-2);
 HOLDS(read_scratch_just_beyond, RUGHTENA_READ_SCRATCH((size_t)-1 / 2 + 1) == (size_t)-1);
 HOLDS(most_switches, RUGHTENA_SWITCHES(RUGHTENA_MOST_WIDTH) == RUGHTENA_MOST_SWITCHES);
 HOLDS(lengths_are_sizes, sizeof(RUGHTENA_SET_LENGTH(12, 3)) == sizeof(size_t) && sizeof(RUGHTENA_SWITCHES(3)) == sizeof(size_t));
+HOLDS(header_bytes_are_a_size, sizeof(RUGHTENA_HEADER_BYTES(12, 3)) == sizeof(size_t));
 HOLDS(padded_are_sizes, sizeof(RUGHTENA_FRAME(10, 3)) == sizeof(size_t) && sizeof(RUGHTENA_GENERATE_SCRATCH(10, 3)) == sizeof(size_t));
 HOLDS(read_scratch_is_a_size, sizeof(RUGHTENA_READ_SCRATCH(12)) == sizeof(size_t));
 HOLDS(version_number, RUGHTENA_VERSION == RUGHTENA_VERSION_MAJOR * 10000 + RUGHTENA_VERSION_MINOR * 100 + RUGHTENA_VERSION_PATCH);
@@ -49,8 +57,8 @@ HOLDS(two_registers_of_a_step, sizeof(rughtena_step_answer) == 16);
 HOLDS(second_of_a_step, offsetof(rughtena_step_answer, wrote) == 4);
 HOLDS(last_of_a_step, offsetof(rughtena_step_answer, value) == 8);
 
-#if RUGHTENA_VERSION < 700
-#error "RUGHTENA_VERSION is no number of the preprocessor, or below 0.7.0"
+#if RUGHTENA_VERSION < 800
+#error "RUGHTENA_VERSION is no number of the preprocessor, or below 0.8.0"
 #endif
 
 static uint16_t images[RUGHTENA_MOST_WORDS], read_images[RUGHTENA_MOST_WORDS];
@@ -63,6 +71,18 @@ static void same(const char *what, size_t first, size_t second, size_t expected,
         failures++;
         printf("header: %s of %lu, %lu: %lu expected, %lu found\n", what, (unsigned long)first, (unsigned long)second,
                (unsigned long)expected, (unsigned long)found);
+    }
+}
+
+/* The file begins with the header of a set of n words: n in 13 bits, or 0 there, the mark 1 and n in 16 bits. */
+static void header_of(size_t n, size_t w) {
+    const size_t is_long = n > RUGHTENA_SHORT_WORDS, front = is_long ? 0 : n;
+    same("first byte of the header", n, w, front / 32, file[0]);
+    same("second byte of the header", n, w, front % 32 * 8 + w / 16, file[1]);
+    same("third byte of the header", n, w, w % 16 * 16 + is_long, file[2]);
+    if (is_long) {
+        same("fourth byte of the header", n, w, n / 256, file[3]);
+        same("fifth byte of the header", n, w, n % 256, file[4]);
     }
 }
 
@@ -83,6 +103,7 @@ static void length_of(size_t n, size_t w) {
     same("width of the set", n, w, w, read.width);
     same("line bits of the set", n, w, RUGHTENA_CYCLES(n, w) * RUGHTENA_CYCLE_BITS(n, w), read.line_bits);
     same("crossed switches of the set", n, w, 0, read.crossed);
+    header_of(RUGHTENA_FRAME(n, w), w);
 }
 
 /* Arguments of types in which the larger limits cannot be written; a compiler warns where a comparison cannot fail. */
@@ -109,6 +130,9 @@ static void lengths(void) {
             }
         }
         length_of(RUGHTENA_MOST_WORDS / w * w, w);
+        /* the last set of the short form, and the first of the long one */
+        length_of(RUGHTENA_SHORT_WORDS / w * w, w);
+        length_of(RUGHTENA_SHORT_WORDS / w * w + 1, w);
     }
     same("padded, both scratches, length and switches", 10, 3, 12 + 280 + 20 + 12 + 5, narrow(10, 3));
     same("two padded, scratch and two lengths", 10, 3, 10 + 12 + 280 + 12 + 0, narrow_words(10));
@@ -154,6 +178,29 @@ static size_t number_of_reading(size_t file_len, size_t images_len) {
     return read.number;
 }
 
+/* Headers of both forms on files of 3 to 5 bytes, none of which is a whole set. */
+static void headers(void) {
+    static const struct {
+        uint8_t bytes[5];
+        size_t length, number;
+    } rows[] = {
+        {{0x00, 0x00, 0x11, 0x00, 0x00}, 3, RUGHTENA_FILE_SHORT}, {{0x00, 0x00, 0x11, 0x10, 0x00}, 4, RUGHTENA_FILE_SHORT},
+        {{0x00, 0x00, 0x01, 0x00, 0x00}, 3, RUGHTENA_FILE_SHORT}, {{0x00, 0x07, 0xf1, 0x00, 0x00}, 3, RUGHTENA_FILE_SHORT},
+        {{0x00, 0x00, 0x11, 0x10, 0x00}, 5, RUGHTENA_HEADER},     {{0x00, 0x00, 0x11, 0x40, 0x01}, 5, RUGHTENA_HEADER},
+        {{0x00, 0x00, 0x11, 0x10, 0x01}, 5, RUGHTENA_FILE_SHORT}, {{0x00, 0x00, 0x11, 0x40, 0x00}, 5, RUGHTENA_FILE_SHORT},
+        {{0x00, 0x00, 0x01, 0x10, 0x01}, 5, RUGHTENA_HEADER},     {{0x00, 0x04, 0x11, 0x10, 0x01}, 5, RUGHTENA_HEADER},
+        {{0x00, 0x00, 0x31, 0x10, 0x01}, 5, RUGHTENA_HEADER},     {{0x00, 0x00, 0x10, 0x00, 0x00}, 3, RUGHTENA_HEADER},
+        {{0x00, 0x00, 0x12, 0x10, 0x01}, 5, RUGHTENA_HEADER},     {{0x00, 0x08, 0x11, 0x10, 0x01}, 5, RUGHTENA_HEADER},
+        {{0x80, 0x08, 0x10, 0x00, 0x00}, 3, RUGHTENA_HEADER},
+    };
+    size_t row;
+    for (row = 0; row < sizeof rows / sizeof *rows; row++) {
+        const rughtena_read_answer read =
+            rughtena_read(rows[row].bytes, rows[row].length, read_images, RUGHTENA_MOST_WORDS, scratch, sizeof scratch / 2);
+        same("number of a header", row, rows[row].length, rows[row].number, read.number);
+    }
+}
+
 /* Which number a call answers for each fault that it can be given here. */
 static void numbers_of_sets(void) {
     const size_t room = RUGHTENA_GENERATE_SCRATCH(12, 3);
@@ -161,7 +208,7 @@ static void numbers_of_sets(void) {
     const size_t length = RUGHTENA_SET_LENGTH(12, 3);
     same("frame size", 0, 1, RUGHTENA_FRAME_SIZE, rughtena_generate(0, 1, images, 0, file, 3, scratch, room).number);
     same("width", 12, 0, RUGHTENA_WIDTH, rughtena_generate(12, 0, images, 12, file, 3, scratch, room).number);
-    same("padded size", 4096, 3, RUGHTENA_PADDED_SIZE, rughtena_generate(4096, 3, images, 4096, file, 3, scratch, room).number);
+    same("padded size", 16384, 3, RUGHTENA_PADDED_SIZE, rughtena_generate(16384, 3, images, 16384, file, 3, scratch, room).number);
     same("out of range", 2, 1, RUGHTENA_OUT_OF_RANGE, rughtena_generate(2, 1, outside, 2, file, 9, scratch, 260).number);
     same("repeated", 2, 1, RUGHTENA_REPEATED, rughtena_generate(2, 1, repeated, 2, file, 9, scratch, 260).number);
     rughtena_generate(12, 3, images, 12, file, sizeof file, scratch, room);
@@ -288,6 +335,7 @@ int main(void) {
     lengths();
     limits();
     switches();
+    headers();
     numbers_of_sets();
     numbers_of_lines();
     numbers_of_steps();

@@ -9,6 +9,10 @@
 //! n is 1 to [`MOST_WORDS`], w is 1 to [`MOST_WIDTH`]. A frame takes whole cycles, so w divides the n of a set. The n of an order may be any:
 //! [`generate`] makes a set of the padded n, [`frame(n, w)`](frame), in which each word from n on keeps its place.
 //!
+//! A set of up to [`SHORT_WORDS`] words has the short form: a header of 3 bytes, with n in 13 bits, w in 7 and four zero bits, and then its lines.
+//! A set of more words has the long form: 13 zero bits, w in 7 bits, the four bits 0001, n in 16 bits, and then lines of the same kind. So every
+//! set has one form, by its n, and [`read`] and [`step`] take both. A loader that knows the short form alone refuses every set of the long one.
+//!
 //! The calls are those of librughtena.a, which is proved to meet its contracts for all arguments. So no call panics, and none has a
 //! condition on what it is given: it ends with its result or with a [`Refusal`]. All memory is lent by the caller, the crate allocates
 //! nothing and needs no standard library. A refused call alters nothing that was lent to it.
@@ -41,7 +45,7 @@ mod sizes;
 pub use refusal::Refusal;
 pub use sizes::{
     frame, generate_scratch, read_scratch, set_length, switches, LONGEST_SET, MOST_SWITCHES,
-    MOST_WIDTH, MOST_WORDS,
+    MOST_WIDTH, MOST_WORDS, SHORT_WORDS,
 };
 
 /// What an accepted reading says of a table set, beside the images.
@@ -55,7 +59,7 @@ pub struct Contents {
     pub words: usize,
     /// w, the words of a cycle.
     pub width: usize,
-    /// The line bits that were taken, c(2wa + B). The 24 bits of the header and the filling bits are not counted.
+    /// The line bits that were taken, c(2wa + B). The 24 or 40 bits of the header and the filling bits are not counted.
     pub line_bits: usize,
     /// The crossed switches of all lines, the ones among their cB switch bits.
     pub crossed: usize,

@@ -10,6 +10,7 @@ pub mod second;
 
 pub use rughtena::{
     generate_scratch, read_scratch, Clock, Refusal, Said, MOST_SWITCHES, MOST_WIDTH, MOST_WORDS,
+    SHORT_WORDS,
 };
 
 pub fn refuse<T>(number: usize, place: usize) -> Result<T, Refusal> {

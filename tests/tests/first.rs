@@ -2,9 +2,9 @@
 //! bank. Library and second implementation are compared with bytes and digests, with the least of all sets, and with formulas.
 use rughtena_tests::both::{self, make};
 use rughtena_tests::lent::Lent;
-use rughtena_tests::orders::{all, bit_reversal, every_width, identity, reversal, stride, Random};
+use rughtena_tests::orders::{all, bit_reversal, identity, reversal, short_widths, stride, Random};
 use rughtena_tests::second::{crossed, extended, inspect, set_with, Contents, Dims};
-use rughtena_tests::{generate_scratch, MOST_WIDTH, MOST_WORDS};
+use rughtena_tests::{generate_scratch, MOST_WIDTH, MOST_WORDS, SHORT_WORDS};
 use std::collections::BTreeMap;
 
 /// The set of an order, from library and second implementation.
@@ -288,8 +288,8 @@ fn every_table_is_read() {
 #[test]
 fn orders_that_keep_the_banks_apart() {
     let mut random = Random(56);
-    for n in [1, 64, 100, 1000, MOST_WORDS] {
-        for w in every_width(n) {
+    for n in [1, 64, 100, 1000, SHORT_WORDS] {
+        for w in short_widths(n) {
             // each bank has one port, so that line t reads t
             let reads: Vec<u16> = (0..n.next_multiple_of(w)).map(|i| (i / w) as u16).collect();
             reads_first(w, &identity(n), &reads, &mut random);
@@ -314,7 +314,7 @@ fn orders_that_change_the_port_by_blocks() {
             .collect();
         reads_first(w, &order, &reads, &mut random);
     };
-    for n in [64, 1024, MOST_WORDS] {
+    for n in [64, 1024, SHORT_WORDS, MOST_WORDS] {
         for w in [1, 2, 4, 8, 16, 32, 64].into_iter().filter(|w| w * w <= n) {
             by_blocks(w, bit_reversal(n), n / w / w);
             for rows in [2, 8, 32, 64] {
@@ -338,7 +338,9 @@ fn same_set_in_any_memory() {
         (100, 7),
         (130, 26),
         (1000, 16),
-        (MOST_WORDS, 1),
+        (SHORT_WORDS, 1),
+        (SHORT_WORDS, 64),
+        (5000, 33),
         (MOST_WORDS, 64),
     ] {
         let order = random.order(n);

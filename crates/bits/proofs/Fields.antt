@@ -83,12 +83,13 @@ bit-zeros Z i = ap (λ (x : ℕ). digit x (7 - i % 8)) (Z .same (i / 8))
 pub field-zeros : {xs ys : List ℕ} → WithZeros xs ys → (at w : ℕ) → field ys at w ≡ field xs at w
 field-zeros {xs} {ys} Z at w = field-cong ys xs at w (λ j l. bit-zeros Z (at + j))
 
--- A field that ends within the first k bytes is one of theirs.
-pub field-take : (k : ℕ) (xs : List ℕ) (at w : ℕ) → at + w ≤ 8 * k → field (take k xs) at w ≡ field xs at w
+-- A bit within the first k bytes is one of theirs, and so is a field that ends there.
+pub bit-take : (k : ℕ) (xs : List ℕ) (i : ℕ) → i < 8 * k → bit (take k xs) i ≡ bit xs i
 unfolding bit
-field-take k xs at w inside =
-    field-cong (take k xs) xs at w
-    (λ j h. ap (λ (x : ℕ). digit x (7 - (at + j) % 8)) (getD-take k xs ((at + j) / 8) 0 (omega arith)))
+bit-take k xs i inside = ap (λ (x : ℕ). digit x (7 - i % 8)) (getD-take k xs (i / 8) 0 (omega arith))
+
+pub field-take : (k : ℕ) (xs : List ℕ) (at w : ℕ) → at + w ≤ 8 * k → field (take k xs) at w ≡ field xs at w
+field-take k xs at w inside = field-cong (take k xs) xs at w (λ j h. bit-take k xs (at + j) (omega arith))
 
 -- The bits of a field are its digits.
 pub bit-field : (xs : List ℕ) (at w j : ℕ) → j < w → bit xs (at + j) ≡ digit (field xs at w) (w - suc j)

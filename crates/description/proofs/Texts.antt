@@ -42,14 +42,16 @@ use Rattle.reading.specs.Reading.{readOutcome, readOf}
 use Rattle.reading.specs.declared.Contents.{Contents}
 use Rattle.reading.specs.declared.Reading.{Reading}
 use Rattle.reading.specs.declared.Reading.the-variants.{Read, Refused}
+use Rattle.tables.specs.Format.{shapeOf, openOf}
+use Rattle.tables.specs.declared.Opened.the-variants.{Set, Refused as Unopened}
 use Rattle.tables.proofs.Dims.{Dims}
 use Rattle.tables.proofs.Form.{opened-dims}
-use Rattle.reading.proofs.Exact.{read-performs}
+use Rattle.reading.proofs.Exact.{read-performs, read-unopened}
 use Rattle.description.specs.Description.{wordsText, widthText, separator, leavers, setText, refusalText, textOf, descriptionOf, told, tellOf}
 
--- a number below 10,000 takes at most four characters
-pub decimal-short : (x : ℕ) → x < 10000 → length (decimal x) ≤ 4
-decimal-short x l = decimal-length 3 x l
+-- a number below 100,000 takes at most five characters
+pub decimal-short : (x : ℕ) → x < 100000 → length (decimal x) ≤ 5
+decimal-short x l = decimal-length 4 x l
 
 -- what is written ends at position k or before, and the text has room for the longest description
 abbrev pub Room : ℕ → ℕ → List ℕ → Type 0
@@ -63,14 +65,14 @@ room-more k m R l W = (omega (arith, R .0, W .end, l), omega (arith, R .1, wrote
 pub record Leaving (n w : ℕ) (word : ℕ → ℕ) (before : List ℕ) (at j next : ℕ) (after : List ℕ) : Type 0 where
   pub upto : j ≤ n
   pub wrote : Wrote before at (leavers w word j) next after
-  pub short : next ≤ at + 5 * j
+  pub short : next ≤ at + 6 * j
 
 pub leaving-none : (n w : ℕ) (word : ℕ → ℕ) (before : List ℕ) (at : ℕ) → Leaving n w word before at 0 at before
 unfolding leavers joined
 leaving-none n w word before at = record { upto = omega arith; wrote = wrote-none before at; short = omega arith }
 
 pub leaving-more : {n w : ℕ} {word : ℕ → ℕ} {before middle after : List ℕ} {at j next r x v : ℕ} → Leaving n w word before at j next middle → j < n
-    → Wrote middle next (decimal x) r after → x < 10000 → x ≡ word j → v ≡ separator w j → Leaving n w word before at (j + 1) (r + 1) (set after r v)
+    → Wrote middle next (decimal x) r after → x < 100000 → x ≡ word j → v ≡ separator w j → Leaving n w word before at (j + 1) (r + 1) (set after r v)
 unfolding leavers joined
 leaving-more {n} {w} {word} {before} {middle} {after} {at} {j} {next} {r} {x} {v} L l W few ex ev =
     let both : Wrote before at (leavers w word j ++ (decimal x ++ (v ∷ []))) (r + 1) (set after r v) = wrote-append (L .wrote) (wrote-more v W) in
@@ -116,6 +118,7 @@ ReadLeavers file r words =
 
 -- a file that is accepted
 pub record SetRead (file : List ℕ) (contents : Contents) (words : List ℕ) : Type 0 where
+  pub opened : openOf file ≡ Set (shapeOf (contents .words) (contents .width))
   pub dims : Dims (contents .words) (contents .width)
   pub below : (j : ℕ) → j < contents .words → getD words j 0 < contents .words
   pub described : descriptionOf file ≡ setText (contents .words) (contents .width) (λ j. getD words j 0)
@@ -133,16 +136,22 @@ set-read file words {r} {contents} L e =
     leavers-ext w (inverse n (orderOf n after)) (λ j. getD words j 0) n
     (λ j l. inverse-ext n (orderOf n after) (λ i. getD after i 0) j (order-listed n after) ∙ sym (L .2 contents e j l)) in
     record {
+      opened = known .opened;
       dims = opened-dims file (known .opened) .0;
       below = λ j l. rw (L .2 contents e j l) (inverse-below n (λ i. getD after i 0) (known .performs .permutes) j l);
       described = ap textOf q ∙ ap (λ (xs : List ℕ). wordsText ++ (decimal n ++ (widthText ++ (decimal w ++ (10 ∷ xs))))) same;
     }
 
--- a file that is refused
+-- a file of the right form that is refused
 pub refusal-read : (file words : List ℕ) {r : Reading} {refusal : Refusal} → ReadLeavers file r words → r ≡ Refused refusal
     → descriptionOf file ≡ refusalText (numberOf refusal)
 unfolding descriptionOf textOf
 refusal-read file words L e = ap textOf (sym (L .1) ∙ ap (λ (z : Reading). readOutcome z (L .0)) e)
+
+-- a file without the right form
+pub unopened-read : (file : List ℕ) (r : Refusal) → openOf file ≡ Unopened r → descriptionOf file ≡ refusalText (numberOf r)
+unfolding descriptionOf textOf
+unopened-read file r h = ap textOf (read-unopened file (replicate mostWords 0) (replicate (2 * mostWords) 0) r h)
 
 -- the call's answer, from what was written
 pub tells : (file text : List ℕ) {d after : List ℕ} {r : ℕ} → textRoom ≤ length text → descriptionOf file ≡ d → Wrote text 0 d r after

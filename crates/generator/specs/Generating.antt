@@ -43,7 +43,7 @@ lentTest n m w images room scratch =
     ifLt (length images) n (Refused BufferShort)
     (ifLt room (fileLength m w) (Refused BufferShort) (ifLt scratch (scratchNeed m) (Refused BufferShort) (checkOf images n)))
 
--- "1, 2, 3, 12, then 4 and 5 by rising i", where 3 is "that the longer n exceeds 4,096"
+-- "1, 2, 3, 12, then 4 and 5 by rising i", where 3 is "that the longer n exceeds" the limit
 unfoldable pub checksOf : ℕ → ℕ → List ℕ → ℕ → ℕ → Checked
 checksOf n w images room scratch =
     limitTest n w Refused (ifLt mostWords (padded n w) (Refused PaddedSize) (lentTest n (padded n w) w images room scratch))

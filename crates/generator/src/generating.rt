@@ -1,10 +1,11 @@
 // The call "generating".
 ghost use mathlib.Core.Path.{_≡_};
 ghost use mathlib.Core.List.{List};
-ghost use Prim.Native.Nat.{ℕ, _≤_};
+ghost use Prim.Native.Nat.{ℕ, _<_, _≤_};
 ghost use lib.ListN.{length};
+ghost use Rattle.limits.specs.Limits.{mostWords, shortWords};
 ghost use Rattle.laws.specs.Permutation.{Permutes};
-ghost use Rattle.images.specs.Images.{orderOf};
+ghost use Rattle.images.specs.Images.{checkOf, orderOf};
 ghost use Rattle.tables.specs.Terms.{Limited, Dims, fileLength, padded};
 ghost use Rattle.tables.specs.Format.{Shaped};
 ghost use Rattle.tables.specs.inner.Buffers.{Written};
@@ -19,6 +20,7 @@ use images::Checked;
 use limits::MOST_SWITCHES;
 use limits::MOST_WIDTH;
 use limits::MOST_WORDS;
+use limits::SHORT_WORDS;
 use refusal::Refusal;
 use tables::Limits;
 use tables::Shape;
@@ -29,6 +31,39 @@ fn pad(n: usize, w: usize) -> usize
     ensures { λ r. ⌜ r ≡ padded n w ⌝ }
 {
     (n + (w - 1)) / w * w
+}
+
+// The checks of n images of a short frame. An array is cleared whole, so a short frame has a short one.
+fn check_short(images: &[u16], n: usize) -> Checked
+    requires { ⌜ (n ≤ shortWords) × (n ≤ length (now images)) ⌝ }
+    ensures { λ r. ⌜ r ≡ checkOf (now (images .entry)) n ⌝ }
+{
+    let mut seen = [0u8; SHORT_WORDS];
+    images::check(images, n, &mut seen)
+}
+
+// The checks of n images, up to the longest frame.
+fn check_long(images: &[u16], n: usize) -> Checked
+    requires { ⌜ (n ≤ mostWords) × (n ≤ length (now images)) ⌝ }
+    ensures { λ r. ⌜ r ≡ checkOf (now (images .entry)) n ⌝ }
+{
+    let mut seen = [0u8; MOST_WORDS];
+    images::check(images, n, &mut seen)
+}
+
+// The checks of n images by the smaller array that has room for them, of `size` marks or more. It calls itself for the next size, so that no
+// compiler joins its callers' stack with that of both sizes: a short frame does not pay for the marks of long ones.
+fn check_within(images: &[u16], n: usize, size: usize) -> Checked
+    requires { ⌜ (n ≤ mostWords) × (n ≤ length (now images)) × (0 < size) × (size ≤ mostWords) ⌝ }
+    ensures { λ r. ⌜ r ≡ checkOf (now (images .entry)) n ⌝ }
+{
+    if size < n {
+        return check_within(images, n, MOST_WORDS);
+    }
+    if size <= SHORT_WORDS {
+        return check_short(images, n);
+    }
+    check_long(images, n)
 }
 
 // The tests of the lent memory and of the images, for n images and a set of `words` words, with `room` bytes lent for the file and
@@ -53,7 +88,7 @@ fn check_lent(
     if scratch < 2 * words + 256 {
         return Checked::Refused(Refusal::BufferShort);
     }
-    images::check(images, n)
+    check_within(images, n, SHORT_WORDS)
 }
 
 // All tests before the first lent word is written.

@@ -6,29 +6,38 @@ use mathlib.Core.List.{List}
 use native.Mathlib.Omega.{arith}
 use native.Mathlib.Numerals.{add-one}
 use native.Mathlib.Decide.{ℕ-discrete}
-use lib.ListN.{getD, set, length, replicate, length-replicate, getD-replicate, length-set}
+use lib.ListN.{getD, set, length, replicate, getD-replicate, length-set}
 use lib.Seq.{getD-set-same, getD-set-other}
-use Rattle.limits.specs.Limits.{mostWords}
 use Rattle.laws.specs.Choice.{ifLe, ifEq}
 use Rattle.laws.proofs.Choices.{ifLe-yes, ifLe-no, ifEq-yes, ifEq-no}
 use Rattle.refusal.specs.declared.Refusal.the-variants.{OutOfRange, Repeated}
 use Rattle.images.specs.declared.Checked.the-variants.{Permutation, Refused}
 use Rattle.images.specs.Images.{earlier, checkFrom, checkOf}
+use Rattle.images.specs.inner.Marks.{Unseen}
 
--- the first i images passed, and seen holds a mark for each
-pub record Scanned (images : List ℕ) (n : ℕ) (seen : List ℕ) (i : ℕ) : Type 0 where
+-- an array of zeros, lent as marks
+pub unseen-zeros : (n : ℕ) (seen : List ℕ) → seen ≡ replicate (length seen) 0 → n ≤ length seen → Unseen n seen
+unseen-zeros n seen zeros few = record {
+  room = few;
+  clear = λ x l. ap (λ (xs : List ℕ). getD xs x 0) zeros ∙ getD-replicate {A = ℕ} (length seen) x 0 0 (omega arith);
+}
+
+-- the first i images passed, and of the marks lent as `seen₀`, seen holds one for each
+pub record Scanned (images : List ℕ) (n : ℕ) (seen₀ seen : List ℕ) (i : ℕ) : Type 0 where
   pub upto : i ≤ n
-  pub long : length seen ≡ mostWords
+  pub kept : length seen ≡ length seen₀
+  pub room : n ≤ length seen
   pub marks : (x : ℕ) → x < n → getD seen x 0 ≡ earlier images i x
   pub rest : checkFrom images n (n - i) i ≡ checkOf images n
 
 module _ (images : List ℕ) (n : ℕ) where
-  pub scanned-none : n ≤ mostWords → Scanned images n (replicate mostWords 0) 0
+  pub scanned-none : {seen₀ : List ℕ} → Unseen n seen₀ → Scanned images n seen₀ seen₀ 0
   unfolding earlier checkOf
-  scanned-none few = record {
+  scanned-none U = record {
     upto = omega arith;
-    long = length-replicate {A = ℕ} mostWords 0;
-    marks = λ x l. getD-replicate {A = ℕ} mostWords x 0 0 (omega arith);
+    kept = refl;
+    room = U .room;
+    marks = U .clear;
     rest = ap (λ (k : ℕ). checkFrom images n k 0) (omega arith);
   }
 
@@ -39,7 +48,7 @@ module _ (images : List ℕ) (n : ℕ) where
   unfolding checkFrom
   scan-at i l = let e : n - i ≡ suc (n - (i + 1)) = omega arith in rw e refl
 
-  module _ {seen : List ℕ} {i : ℕ} (S : Scanned images n seen i) where
+  module _ {seen₀ seen : List ℕ} {i : ℕ} (S : Scanned images n seen₀ seen i) where
     pub refused-large : i < n → n ≤ getD images i 0 → Refused (OutOfRange i) ≡ checkOf images n
     refused-large l h = ifLe-yes n (getD images i 0) _ _ _ h refl ∙ sym (scan-at i l) ∙ S .rest
 
@@ -51,14 +60,15 @@ module _ (images : List ℕ) (n : ℕ) where
     pub refused-repeated : i < n → getD images i 0 < n → getD seen (getD images i 0) 0 ≡ 1 → Refused (Repeated i) ≡ checkOf images n
     refused-repeated l h e = ifEq-yes _ 1 _ _ _ (sym (S .marks (getD images i 0) h) ∙ e) refl ∙ sym (in-range l h)
 
-    pub scanned-more : n ≤ mostWords → i < n → getD images i 0 < n → (getD seen (getD images i 0) 0 ≡ 1 → ⊥)
-        → Scanned images n (set seen (getD images i 0) 1) (i + 1)
+    pub scanned-more : i < n → getD images i 0 < n → (getD seen (getD images i 0) 0 ≡ 1 → ⊥)
+        → Scanned images n seen₀ (set seen (getD images i 0) 1) (i + 1)
     unfolding earlier
-    scanned-more few l h ne = record {
+    scanned-more l h ne = record {
       upto = omega arith;
-      long = length-set seen (getD images i 0) 1 ∙ S .long;
+      kept = length-set seen (getD images i 0) 1 ∙ S .kept;
+      room = omega (arith, length-set seen (getD images i 0) 1, S .room);
       marks = λ x m. rw (add-one i) (elim (ℕ-discrete x (getD images i 0)) [
-        | yes e ↦ rw e (ifEq-yes _ _ _ _ _ refl (getD-set-same seen (getD images i 0) 1 0 (omega (arith, S .long))))
+        | yes e ↦ rw e (ifEq-yes _ _ _ _ _ refl (getD-set-same seen (getD images i 0) 1 0 (omega (arith, S .room))))
         | no f ↦ ifEq-no _ _ _ _ _ f (getD-set-other seen (getD images i 0) x 1 0 f ∙ S .marks x m)
       ]);
       rest = ifEq-no _ 1 _ _ _ (λ e. ne (S .marks (getD images i 0) h ∙ e)) refl ∙ sym (in-range l h);

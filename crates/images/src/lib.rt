@@ -2,9 +2,8 @@
 ghost use mathlib.Core.Path.{_≡_};
 ghost use Prim.Native.Nat.{_^_, _<_, _≤_};
 ghost use lib.ListN.{length};
-ghost use Rattle.limits.specs.Limits.{mostWords};
 ghost use Rattle.images.specs.Images.{checkOf, orderOf};
-use limits::MOST_WORDS;
+ghost use Rattle.images.specs.inner.Marks.{Unseen};
 use refusal::Refusal;
 
 // The place of word i: its image, or behind the list its own place.
@@ -23,11 +22,11 @@ pub enum Checked {
 }
 
 // Whether the first n images are a permutation of 0 .. n - 1. Only our own crates call it, after their tests of n and of the length.
-pub fn check(images: &[u16], n: usize) -> Checked
-    requires { ⌜ (n ≤ mostWords) × (n ≤ length (now images)) ⌝ }
+// They lend a mark for each image, so that each pays for the frames it may be given and no longer ones.
+pub fn check(images: &[u16], n: usize, seen: &mut [u8]) -> Checked
+    requires { ⌜ (n ≤ length (now images)) × Unseen n (now seen) ⌝ }
     ensures { λ r. ⌜ r ≡ checkOf (now (images .entry)) n ⌝ }
 {
-    let mut seen = [0u8; MOST_WORDS];
     let mut i: usize = 0;
     while i < n {
         let image = images[i] as usize;

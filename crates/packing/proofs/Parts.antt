@@ -71,10 +71,10 @@ putting-more {whole} {file} {after} {values} {current} {next} {at} {k} {m} P W B
 
 -- the shape's numbers, where it ends and how long the file is
 pub record Ending (s : Shape) : Type 0 where
-  pub offset : s .cycles * s .stride ≤ 2 ^ 24
+  pub offset : s .cycles * s .stride ≤ 2 ^ 26
   pub end : s .start + s .cycles * s .stride ≡ lineAt (s .words) (s .width) (s .cycles)
   pub last : lineAt (s .words) (s .width) (s .cycles) ≡ lineAt (s .words) (s .width) (cycles (s .words) (s .width))
-  pub few : lineAt (s .words) (s .width) (s .cycles) ≤ 2 ^ 24
+  pub few : lineAt (s .words) (s .width) (s .cycles) ≤ 2 ^ 26
   pub reaches : lineAt (s .words) (s .width) (s .cycles) ≤ 8 * fileLength (s .words) (s .width)
   pub tight : 8 * fileLength (s .words) (s .width) < lineAt (s .words) (s .width) (s .cycles) + 8
 

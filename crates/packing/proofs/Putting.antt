@@ -1,7 +1,7 @@
 -- What the parts of a set write, one behind the other: with the header, the lines so far and the filling put, the bits up to there are
 -- those of the set, and the later ones are the buffer's. Each part is a row of fields, whose digits are bits of the set.
 use Prim.Native.Nat.{ℕ, zero, suc, _+_, _*_, _-_, _^_, _<_, _≤_}
-use mathlib.Core.Path.{_≡_, refl, sym, ap, subst, _∙_}
+use mathlib.Core.Path.{_≡_, refl, sym, ap, ap₂, subst, subst₂, _∙_}
 use mathlib.Core.List.{List}
 use native.Mathlib.Omega.{arith}
 use native.Mathlib.Nat.{zero-add, mod-eq-of-lt}
@@ -16,12 +16,13 @@ use Rattle.network.proofs.Performs.{setting-bit}
 use Rattle.tables.specs.Terms.{cycles, addressBits, depth, switchBits, addressRow, lineBits, fileLength}
 use Rattle.tables.specs.Format.{lineAt}
 use Rattle.tables.specs.Generated.{portOf, writeOf, setBits}
-use Rattle.tables.specs.Header.{headerOf, headerBits}
-use Rattle.tables.proofs.Header.{header-words, header-width, header-zeros}
+use Rattle.limits.specs.Limits.{shortWords}
+use Rattle.tables.specs.Header.{headerOf, shortBytes, longBytes, headerBits}
+use Rattle.tables.proofs.Header.{firstOf, markOf, first-long, first-short, mark-long, mark-short, bytes-long, bytes-short, header-first, header-width, header-mark, header-words}
 use Rattle.tables.proofs.Dims.{lineAt-zero, lineAt-suc, lineAt-order, fileLength-reaches}
 use Rattle.tables.proofs.SetBits.{setBits-header, setBits-past, setBits-read, setBits-switch, setBits-write}
 use Rattle.tables.proofs.Written.{Written, written-none, written-field, written-zeros, written-ext}
-use Rattle.packing.specs.Packing.{putFields, putLine, putFilling}
+use Rattle.packing.specs.Packing.{putFront, putFields, putLine, putFilling}
 
 -- a row of fields
 pub fields-written : {bits before file : List ℕ} {at : ℕ} (k : ℕ) (values : List ℕ) (m : ℕ) → Written bits before file at
@@ -38,16 +39,33 @@ fields-written {bits} {before} {file} {at} k values (suc m) W fits same =
     (written-field k (getD values m 0) (fields-written k values m W (omega arith) (λ i j l q. same i j (omega arith) q)) (omega arith)
     (λ j l. same m j (omega arith) l))
 
--- the header's three fields
-pub header-put : (n w : ℕ) {before first second third : List ℕ} → Bytes before → 3 ≤ length before → first ≡ putField before 0 13 n
-    → second ≡ putField first 13 7 w → third ≡ putField second 20 4 0 → Written (headerOf n w) before third (headerBits n)
-unfolding headerBits
-header-put n w B fits a b c =
-    rw (c, b, a)
-    (written-field 4 0
-    (written-field 7 w (written-field 13 n (written-none B) (omega arith) (λ j l. ap (λ (z : ℕ). getD (headerOf n w) z 0) (zero-add j) ∙ header-words n w j l))
+-- the fields with which the header begins
+front-put : (n w : ℕ) {before : List ℕ} → Bytes before → shortBytes ≤ length before
+    → Written (headerOf n w) before (putFront before (firstOf n) w (markOf n)) 24
+unfolding putFront
+front-put n w B fits =
+    written-field 4 (markOf n)
+    (written-field 7 w
+    (written-field 13 (firstOf n) (written-none B) (omega arith) (λ j l. ap (λ (z : ℕ). getD (headerOf n w) z 0) (zero-add j) ∙ header-first n w j l))
     (omega arith) (header-width n w))
-    (omega arith) (header-zeros n w))
+    (omega arith) (header-mark n w)
+
+-- the whole header of the short form
+pub short-put : {n : ℕ} (w : ℕ) {before after : List ℕ} → n ≤ shortWords → Bytes before → shortBytes ≤ length before
+    → after ≡ putFront before n w 0 → Written (headerOf n w) before after (headerBits n)
+short-put {n} w {before} few B fits e =
+    subst₂ (λ (z : List ℕ) (x : ℕ). Written (headerOf n w) before z x)
+    (ap₂ (λ (x z : ℕ). putFront before x w z) (first-short few) (mark-short few) ∙ sym e) (omega (arith, bytes-short few)) (front-put n w B fits)
+
+-- and of the long form, with n behind
+pub long-put : {n : ℕ} (w : ℕ) {before front after : List ℕ} → shortWords < n → Bytes before → longBytes ≤ length before
+    → front ≡ putFront before 0 w 1 → after ≡ putField front 24 16 n → Written (headerOf n w) before after (headerBits n)
+long-put {n} w {before} many B fits e put =
+    let begun : Written (headerOf n w) before _ 24 =
+    subst (λ (z : List ℕ). Written (headerOf n w) before z 24)
+    (ap₂ (λ (x z : ℕ). putFront before x w z) (first-long many) (mark-long many) ∙ sym e) (front-put n w B (omega arith)) in
+    subst₂ (λ (z : List ℕ) (x : ℕ). Written (headerOf n w) before z x) (sym put) (omega (arith, bytes-long many))
+    (written-field 16 n begun (omega arith) (header-words n w many))
 
 module _ (n w : ℕ) (p : ℕ → ℕ) (reads : ℕ → ℕ → ℕ) (before : List ℕ) where
   -- a buffer that begins with the header

@@ -7,6 +7,10 @@ use Rattle.network.specs.Setting.{setting}
 use Rattle.tables.specs.Terms.{cycles, addressBits, depth, switchBits, addressRow, fileLength}
 use Rattle.tables.specs.Format.{lineAt}
 
+-- the three fields with which a header of either form begins: 13 bits, w in 7 bits, four bits
+unfoldable pub putFront : List ℕ → ℕ → ℕ → ℕ → List ℕ
+putFront file first width mark = putField (putField (putField file 0 13 first) 13 7 width) 20 4 mark
+
 -- the first `count` values, one behind the other, in fields of k bits from bit `at` on
 unfoldable pub putFields : List ℕ → ℕ → ℕ → List ℕ → ℕ → List ℕ
 putFields file at k values zero = file

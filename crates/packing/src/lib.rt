@@ -10,16 +10,17 @@ ghost use Rattle.network.specs.Setting.{setting};
 ghost use Rattle.setting.specs.inner.Steps.{Inverses};
 ghost use Rattle.network.specs.inner.Sizes.{Sized};
 ghost use Rattle.bits.specs.inner.Writing.{Open, positionOf, wholeOf};
-ghost use Rattle.tables.specs.Header.{headerOf, headerBits};
+ghost use Rattle.tables.specs.Header.{headerOf, shortBytes, headerBits};
 ghost use Rattle.tables.specs.Terms.{cycles, depth, fileLength};
 ghost use Rattle.tables.specs.Format.{lineAt, Shaped};
 ghost use Rattle.tables.specs.inner.Buffers.{Written};
 ghost use Rattle.bits.specs.Bits.{numberAt};
-ghost use Rattle.packing.specs.Packing.{putFields, putLine, putFilling};
+ghost use Rattle.packing.specs.Packing.{putFront, putFields, putLine, putFilling};
 ghost use Rattle.packing.specs.inner.Plans.{Blank, Planned, Wired, Ready};
 use bits::Writer;
 use images::image_at;
 use limits::MOST_WIDTH;
+use limits::SHORT_WORDS;
 use tables::Shape;
 
 // The first `count` values, in fields of `size` bits.
@@ -78,16 +79,30 @@ fn put_bits(file: &mut [u8], writer: Writer, values: &[u8]) -> Writer
     bits::write(file, current, rest, number_of(values, i, rest))
 }
 
+// The three fields with which a header of either form begins.
+fn put_front(file: &mut [u8], first: u16, width: u16, mark: u16) -> Writer
+    requires { ⌜ (first < 2 ^ 13) × (width < 2 ^ 7) × (mark < 2 ^ 4) × (shortBytes ≤ length (now file)) ⌝ }
+    ensures { λ r. ⌜ Open r × (positionOf r ≡ 24) × (wholeOf (now (file .exit)) r ≡ putFront (now (file .entry)) first width mark) ⌝ }
+{
+    let start = bits::writer_at(file, 0);
+    let behind_first = bits::write(file, start, 13, first);
+    let behind_width = bits::write(file, behind_first, 7, width);
+    bits::write(file, behind_width, 4, mark)
+}
+
 // Opens a set in a buffer: its header stands at the front, and the writer behind it.
 pub fn begin(file: &mut [u8], shape: Shape) -> Writer
     requires { ⌜ Shaped shape × (fileLength (shape .words) (shape .width) ≤ length (now file)) ⌝ }
     ensures { λ r. ⌜ Open r × (positionOf r ≡ headerBits (shape .words))
         × Written (headerOf (shape .words) (shape .width)) (now (file .entry)) (wholeOf (now (file .exit)) r) (headerBits (shape .words)) ⌝ }
 {
-    let start = bits::writer_at(file, 0);
-    let words = bits::write(file, start, 13, shape.words as u16);
-    let width = bits::write(file, words, 7, shape.width as u16);
-    bits::write(file, width, 4, 0)
+    let words = shape.words as u16;
+    let width = shape.width as u16;
+    if SHORT_WORDS < shape.words {
+        let front = put_front(file, 0, width, 1);
+        return bits::write(file, front, 16, words);
+    }
+    put_front(file, words, width, 0)
 }
 
 // Closes a set whose lines are put: zeros up to a whole byte, and what the writer holds is stored.

@@ -18,7 +18,7 @@ use Rattle.network.specs.Carried.{carried}
 use Rattle.setting.specs.Calls.{settledOf, written, settingOf, settingReply}
 use Rattle.passing.specs.Calls.{firstBad, passageOf, followOf, followedReply}
 use Rattle.tables.specs.Terms.{limitTest, dimsTest, padded, logFrom, logUp, cycles, addressBits, depth, switchBits, addressRow, lineBits, fileLength}
-use Rattle.tables.specs.Header.{headerOf, headerBits, headerWords, headerWidth, headerZeros}
+use Rattle.tables.specs.Header.{shortHeader, longHeader, headerOf, headerBytes, headerFirst, headerWidth, headerMark, byForm, headerWords, neededBytes}
 use Rattle.tables.specs.Format.{lineAt, readAddress, switchBit, lineCrossings, writeAddress, filling, shapeOf, headerTest, lengthTest, openOf}
 use Rattle.tables.specs.Datapath.{carriedTo, target, readStrays, carryStrays, writeStrays, imageOf}
 use Rattle.tables.specs.Generated.{wordOf, portOf, writeOf, lineOf, setBits, setOf}
@@ -38,8 +38,8 @@ use Rattle.promises.specs.Examples.{examples, ExamplesHold}
 pub examples-hold : ExamplesHold
 unfolding ifLt ifLe ifEq any sum is hits tabulate overwrite joined inverse digit bit field digits numberAt packed refusalReply orderOf earlier checkFrom
     checkOf bitCount depthOf leaves crossings next rank least chosen setting carried settledOf written settingOf settingReply firstBad passageOf followOf
-    followedReply limitTest dimsTest padded logFrom logUp cycles addressBits depth switchBits addressRow lineBits fileLength headerOf headerBits
-    headerWords headerWidth headerZeros lineAt readAddress switchBit lineCrossings writeAddress filling shapeOf headerTest lengthTest openOf carriedTo target
+    followedReply limitTest dimsTest padded logFrom logUp cycles addressBits depth switchBits addressRow lineBits fileLength shortHeader longHeader
+    headerOf headerBytes headerFirst headerWidth headerMark byForm headerWords neededBytes lineAt readAddress switchBit lineCrossings writeAddress filling shapeOf headerTest lengthTest openOf carriedTo target
     readStrays carryStrays writeStrays wordOf portOf writeOf lineOf setBits setOf portAt barred tried finishes misses firstTest readFault
     writeFault scanLines imageOf readLines readOpened readOf readingReply scratchNeed lentTest checksOf generationReply run spot fresh nextFrame
     nextClock leaving moving entering movedCrossings advanceOf saysOf accepted bufferTest clockTest lineTest stepLine stepOpened stepOf said clockAfter carded

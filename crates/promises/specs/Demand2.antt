@@ -1,6 +1,7 @@
 -- Demand 2, reading, as a demand on any reader: a file in document 01's form is accepted exactly where the datapath, run on it for one frame,
 -- performs some permutation, and reading then gives that permutation. Every other file is refused, and nothing is written. A generated set is
--- in the form and reads as the permutation that it was made from. What a reading tells is put in document 01's numbers and values.
+-- in the form and reads as the permutation that it was made from. `Form` speaks of files with a header of either form, by their n. What a reading
+-- tells is put in document 01's numbers and values.
 use Prim.Native.Nat.{ℕ, _*_, _<_, _≤_}
 use mathlib.Core.Path.{_≡_}
 use mathlib.Core.List.{List, [], _∷_}

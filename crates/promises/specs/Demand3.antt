@@ -1,8 +1,8 @@
 -- Demand 3, the machine: for every permutation of n words and every width w a set is generated, where n extended to the next multiple of w is
--- not above 4,096; and over any list of steps on it, refused ones included, the cycle machine and the plain rule for the extended permutation
--- show the same. All over `Generates`, which the contract of
--- `generator::generate` cites, and `machine`, which is made of `stepOf`, which the contract of `machine::step` cites; then of the device with a
--- lent clock, and of the one that C drives.
+-- not above 16,384; and over any list of steps on it, refused ones included, the cycle machine and the plain rule for the extended permutation
+-- show the same. Frames of both forms of a set are meant: the extended n alone decides which one a set has. All over `Generates`, which the
+-- contract of `generator::generate` cites, and `machine`, which is made of `stepOf`, which the contract of `machine::step` cites; then of the
+-- device with a lent clock, and of the one that C drives.
 use Prim.Native.Nat.{ℕ, _*_, _≤_}
 use mathlib.Core.Path.{_≡_}
 use mathlib.Core.List.{List, [], _∷_}

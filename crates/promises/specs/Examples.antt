@@ -9,7 +9,7 @@ use Rattle.refusal.specs.Replies.{accepts}
 use Rattle.machine.specs.Devices.{Feed, feed, Seen, seen, filling, wrote, refused}
 use Rattle.machine.specs.Step.{fresh}
 use Rattle.machine.specs.declared.Clock.{Clock}
-use Rattle.promises.specs.Questions.{generating, reading, setting, following, stepping, running, reordering, making, readLines, switchLines, writeLines, measuring, counting, reporting, counts, says, shows, bytes, lines, long, answer, Example, asks, generatingRefused, readingRefused, settingRefused, followingRefused, steppingRefused}
+use Rattle.promises.specs.Questions.{generating, reading, setting, following, stepping, running, reordering, making, readLines, switchLines, writeLines, heading, measuring, counting, reporting, counts, says, shows, bytes, lines, long, answer, Example, asks, generatingRefused, readingRefused, settingRefused, followingRefused, steppingRefused}
 
 -- ---- the marked examples
 
@@ -96,7 +96,7 @@ marked =
     ∷ generatingRefused 0 1 [] 3 256 1 0
     ∷ generatingRefused 2 1 (0 ∷ 0 ∷ []) 4 260 5 1
     ∷ generatingRefused 2 1 (2 ∷ 0 ∷ []) 4 260 4 0
-    -- "The longest is 12,291 (n 4,096, width 1)"
+    -- document 01's longest set, "12,291 (n 4,096, width 1)"
     ∷ asks (measuring 4096 1) (long 12291)
     ∷ []
 
@@ -104,13 +104,13 @@ marked =
 
 abbrev pub generatings : List Example
 generatings =
-    -- 1 before 2: n 4,097, and n 0 with width 0; 2: width 0, and width 65
-    generatingRefused 4097 1 [] 0 0 1 0
+    -- 1 before 2: n 16,385 (example 9), and n 0 with width 0; 2: width 0, and width 65
+    generatingRefused 16385 0 [] 0 0 1 0
     ∷ generatingRefused 0 0 [] 0 0 1 0
     ∷ generatingRefused 2 0 (0 ∷ 1 ∷ []) 4 260 2 0
     ∷ generatingRefused 130 65 [] 0 0 2 0
-    -- n 4,096 and width 64 pass (12: no memory is lent)
-    ∷ generatingRefused 4096 1 [] 0 0 12 0
+    -- n 16,384 (example 9) and width 64 pass (12: no memory is lent)
+    ∷ generatingRefused 16384 1 [] 0 0 12 0
     ∷ generatingRefused 128 64 [] 0 0 12 0
     -- 12, before 4, for images, file and scratch one short
     ∷ generatingRefused 2 1 (9 ∷ []) 4 260 12 0
@@ -147,13 +147,13 @@ extensions =
     ∷ asks (making 1 2 (0 ∷ []) []) (bytes (0x00 ∷ 0x10 ∷ 0x20 ∷ 0x00 ∷ []))
     ∷ asks (making 1 3 (0 ∷ []) []) (bytes (0x00 ∷ 0x18 ∷ 0x30 ∷ 0x00 ∷ []))
     ∷ asks (reading (0x00 ∷ 0x18 ∷ 0x30 ∷ 0x08 ∷ []) (replicate 3 7) 6) (says (accepts (3 ∷ 3 ∷ 5 ∷ 1 ∷ [])) (1 ∷ 0 ∷ 2 ∷ []))
-    -- 3: the padded n is 4,098, or 4,100; before 12. It is 4,096, 4,095 and 4,096 for the next three, and 4,097 is 1
-    ∷ generatingRefused 4096 3 [] 0 0 3 0
-    ∷ generatingRefused 4096 5 [] 0 0 3 0
-    ∷ generatingRefused 4095 64 [] 0 0 12 0
-    ∷ generatingRefused 4094 5 [] 0 0 12 0
-    ∷ generatingRefused 4033 64 [] 0 0 12 0
-    ∷ generatingRefused 4097 64 [] 0 0 1 0
+    -- 3: the padded n is 16,386, or 16,385; before 12. It is 16,384, 16,383 and 16,384 for the next three, and 16,385 is 1
+    ∷ generatingRefused 16384 3 [] 0 0 3 0
+    ∷ generatingRefused 16381 5 [] 0 0 3 0
+    ∷ generatingRefused 16383 64 [] 0 0 12 0
+    ∷ generatingRefused 16382 3 [] 0 0 12 0
+    ∷ generatingRefused 16321 64 [] 0 0 12 0
+    ∷ generatingRefused 16385 64 [] 0 0 1 0
     -- 12: an image less than n, and a byte and a scratch word less than the padded n needs
     ∷ generatingRefused 10 3 nine 12 280 12 0
     ∷ generatingRefused 10 3 straight10 11 280 12 0
@@ -257,7 +257,7 @@ abbrev pub readings : List Example
 readings =
     -- accepted: read and written at 0, 1, 2. Words beyond the need stay
     asks (reading (set3 0x05 0xA0) (replicate 4 7) 6) (says (accepts (3 ∷ 1 ∷ 12 ∷ 0 ∷ [])) (0 ∷ 1 ∷ 2 ∷ 7 ∷ []))
-    -- 6: two bytes; 7: n 0, n 4,097, width 0, width 65, a width that does not divide, each before 6 for the whole
+    -- 6: two bytes; 7: n 0, n 4,097 in the short form, width 0, width 65, a width that does not divide, each before 6 for the whole
     ∷ readingRefused (0x00 ∷ 0x00 ∷ []) [] 0 6 0
     ∷ readingRefused (0x00 ∷ 0x00 ∷ 0x10 ∷ []) [] 0 7 0
     ∷ readingRefused (0x80 ∷ 0x08 ∷ 0x10 ∷ []) [] 0 7 0
@@ -390,10 +390,67 @@ powers =
     ∷ repeatStep 0 (0 ∷ 0 ∷ 0 ∷ 1 ∷ 1 ∷ [])
     ∷ []
 
+-- ---- frames of more than 4,096 words (document 02, #109)
+
+-- the long form's header for w 1, with this n in its last two bytes
+abbrev pub header1 : ℕ → ℕ → List ℕ
+header1 x y = 0x00 ∷ 0x00 ∷ 0x11 ∷ x ∷ y ∷ []
+
+abbrev pub longs : List Example
+longs =
+    -- 6 for three and four bytes of a header of the long form, whatever w is: 1, 0 and 127
+    readingRefused (0x00 ∷ 0x00 ∷ 0x11 ∷ []) [] 0 6 0
+    ∷ readingRefused (0x00 ∷ 0x00 ∷ 0x11 ∷ 0x10 ∷ []) [] 0 6 0
+    ∷ readingRefused (0x00 ∷ 0x00 ∷ 0x01 ∷ []) [] 0 6 0
+    ∷ readingRefused (0x00 ∷ 0x07 ∷ 0xF1 ∷ []) [] 0 6 0
+    -- 7 for n 4,096, 16,385 and 1 in the long form
+    ∷ readingRefused (header1 0x10 0x00) [] 0 7 0
+    ∷ readingRefused (header1 0x40 0x01) [] 0 7 0
+    ∷ readingRefused (header1 0x00 0x01) [] 0 7 0
+    -- n 4,097 and 16,384 pass: 6 for the whole
+    ∷ readingRefused (header1 0x10 0x01) [] 0 6 0
+    ∷ readingRefused (header1 0x40 0x00) [] 0 6 0
+    -- 7 for w 0, w 65, and w 3, which does not divide 4,097
+    ∷ readingRefused (0x00 ∷ 0x00 ∷ 0x01 ∷ 0x10 ∷ 0x01 ∷ []) [] 0 7 0
+    ∷ readingRefused (0x00 ∷ 0x04 ∷ 0x11 ∷ 0x10 ∷ 0x01 ∷ []) [] 0 7 0
+    ∷ readingRefused (0x00 ∷ 0x00 ∷ 0x31 ∷ 0x10 ∷ 0x01 ∷ []) [] 0 7 0
+    -- 7 at three bytes for every header of the short form with n 0, and for n 1 with the bits 0001
+    ∷ readingRefused (0x00 ∷ 0x00 ∷ 0x12 ∷ []) [] 0 7 0
+    ∷ readingRefused (0x00 ∷ 0x00 ∷ 0x1F ∷ []) [] 0 7 0
+    ∷ readingRefused (0x00 ∷ 0x08 ∷ 0x11 ∷ []) [] 0 7 0
+    -- a step makes the same tests
+    ∷ steppingRefused (0x00 ∷ 0x00 ∷ 0x11 ∷ 0x10 ∷ []) fresh [] [] [] [] 6 0
+    ∷ steppingRefused (header1 0x10 0x00) fresh [] [] [] [] 7 0
+    ∷ steppingRefused (header1 0x10 0x01) fresh [] [] [] [] 6 0
+    -- the headers that sets have, by the padded n: 4,096 at w 1, 4,097 at w 1, 4,098 at w 3, 4,160 and 16,384 at w 64
+    ∷ asks (heading 4096 1) (bytes (0x80 ∷ 0x00 ∷ 0x10 ∷ []))
+    ∷ asks (heading 4033 64) (bytes (0x80 ∷ 0x04 ∷ 0x00 ∷ []))
+    ∷ asks (heading 4097 1) (bytes (header1 0x10 0x01))
+    ∷ asks (heading 4096 3) (bytes (0x00 ∷ 0x00 ∷ 0x31 ∷ 0x10 ∷ 0x02 ∷ []))
+    ∷ asks (heading 4160 64) (bytes (0x00 ∷ 0x04 ∷ 0x01 ∷ 0x10 ∷ 0x40 ∷ []))
+    ∷ asks (heading 16384 64) (bytes (0x00 ∷ 0x04 ∷ 0x01 ∷ 0x40 ∷ 0x00 ∷ []))
+    -- their lengths; that of n 16,384 at w 1 is the most
+    ∷ asks (measuring 4098 3) (long 12129)
+    ∷ asks (measuring 4160 64) (long 9894)
+    ∷ asks (measuring 16384 64) (long 43045)
+    ∷ asks (measuring 4097 1) (long 13321)
+    ∷ asks (measuring 16384 1) (long 57349)
+    -- and their line bits, which the header has no part in
+    ∷ asks (counting 4098 3) (long 96986)
+    ∷ asks (counting 4160 64) (long 79105)
+    ∷ asks (counting 16384 64) (long 344320)
+    ∷ asks (counting 4097 1) (long 106522)
+    ∷ asks (counting 16384 1) (long 458752)
+    -- 4,096 words at w 3 are extended to 4,098, no longer 3; a byte and a scratch word less than that needs is 12, before 5
+    ∷ generatingRefused 4096 3 (replicate 4096 0) 12128 8452 12 0
+    ∷ generatingRefused 4096 3 (replicate 4096 0) 12129 8451 12 0
+    ∷ generatingRefused 4096 3 (replicate 4096 0) 12129 8452 5 1
+    ∷ []
+
 -- ---- all of them
 
 unfoldable pub examples : List Example
-examples = marked ++ (generatings ++ (extensions ++ (scratches ++ (firsts ++ (networks ++ (readings ++ (steps ++ powers)))))))
+examples = marked ++ (generatings ++ (extensions ++ (scratches ++ (firsts ++ (networks ++ (readings ++ (steps ++ (powers ++ longs))))))))
 
 -- each question, computed, has the answer listed
 abbrev pub ExamplesHold : Type 0

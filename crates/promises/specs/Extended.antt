@@ -31,7 +31,7 @@ pub record Extending : Type 0 where
   pub listed : (n : ℕ) (images : List ℕ) (i : ℕ) → i < n → orderOf n images i ≡ getD images i 0
   pub fixed : (n : ℕ) (images : List ℕ) (i : ℕ) → n ≤ i → orderOf n images i ≡ i
   pub permutes : (n w : ℕ) (images : List ℕ) → 0 < w → Permutes n (λ i. getD images i 0) → Permutes (padded n w) (orderOf n images)
-  -- "Number 3 now means exactly that the longer n exceeds 4,096", of an n and a w that keep their own limits (1 and 2)
+  -- "Number 3 now means exactly that the longer n exceeds" the limit, which is 16,384, of an n and a w that keep their own limits (1 and 2)
   pub three : (n w : ℕ) (images file scratch : List ℕ) (answer : Generation) (file′ scratch′ : List ℕ)
       → Generates n w images file scratch answer file′ scratch′
       → (generationReply answer ≡ refuses 3 0) ↔ (Limited n w × (mostWords < padded n w))

@@ -12,6 +12,8 @@ use Rattle.images.specs.declared.Checked.the-variants.{Permutation, Refused as 
 use Rattle.setting.specs.Calls.{SetOutcome, setOutcome, settingOf, settingReply}
 use Rattle.passing.specs.Calls.{followOf, followedReply}
 use Rattle.tables.specs.Terms.{cycles, switchBits, setLineBits, fileLength, padded}
+use Rattle.bits.specs.Bits.{packed}
+use Rattle.tables.specs.Header.{headerOf}
 use Rattle.tables.specs.Format.{readAddress, switchBit, writeAddress}
 use Rattle.tables.specs.Generated.{setOf}
 use Rattle.tables.specs.FirstTest.{firstTest}
@@ -48,6 +50,8 @@ pub data Question : Type 0 where
   readLines : ℕ → ℕ → List ℕ → Question
   switchLines : ℕ → ℕ → List ℕ → Question
   writeLines : ℕ → ℕ → List ℕ → Question
+  -- the header of the set that generating makes for n words and width w, n extended
+  heading : ℕ → ℕ → Question
   -- the length of a set of n words and width w, and its line bits
   measuring : ℕ → ℕ → Question
   counting : ℕ → ℕ → Question
@@ -59,7 +63,7 @@ pub data Answer : Type 0 where
   says : Reply → List ℕ → Answer
   -- what each step of a list shows
   shows : List Seen → Answer
-  -- a file, the lines of one, its bytes or line bits
+  -- a file or its header, the lines of one, its bytes or line bits
   bytes : List ℕ → Answer
   lines : List (List ℕ) → Answer
   long : ℕ → Answer
@@ -104,6 +108,7 @@ answer (making n w images reads) = bytes (madeOf (padded n w) w (orderOf n image
 answer (readLines n w file) = lines (tabulate (cycles n w) (λ t. tabulate w (readAddress n w file t)))
 answer (switchLines n w file) = lines (tabulate (cycles n w) (λ t. tabulate (switchBits w) (switchBit n w file t)))
 answer (writeLines n w file) = lines (tabulate (cycles n w) (λ t. tabulate w (writeAddress n w file t)))
+answer (heading n w) = bytes (packed (headerOf (padded n w) w))
 answer (measuring n w) = long (fileLength n w)
 answer (counting n w) = long (setLineBits n w)
 answer (reporting file size steps) = counts (map reported (replies (cardReply file) (machine file) (zeroCard size) steps))

@@ -1,5 +1,5 @@
--- Behind 12,292 bytes or more what is left of a file reads as the whole does: no set is that long, so it is refused in opening, which the
--- first three bytes decide.
+-- Behind 57,350 bytes or more what is left of a file reads as the whole does: no set is that long, so it is refused in opening, which the
+-- first five bytes decide.
 use Prim.Native.Nat.{ℕ, _≤_}
 use mathlib.Core.Path.{_≡_, sym, ap, _∙_}
 use mathlib.Core.List.{List}
@@ -14,7 +14,7 @@ use Rattle.tables.proofs.Cut.{open-cut}
 use Rattle.reading.specs.Reading.{readOf}
 use Rattle.reading.proofs.Exact.{read-unopened}
 
-pub read-cut : (file : List ℕ) (k : ℕ) → 12292 ≤ k → (images scratch : List ℕ) → readOf (take k file) images scratch ≡ readOf file images scratch
+pub read-cut : (file : List ℕ) (k : ℕ) → 57350 ≤ k → (images scratch : List ℕ) → readOf (take k file) images scratch ≡ readOf file images scratch
 read-cut file k l images scratch = elim (decLe (length file) k) [
   | yes whole ↦ ap (λ (z : List ℕ). readOf z images scratch) (take-all k file whole)
   | no longer ↦

@@ -20,6 +20,7 @@ use Rattle.tables.specs.Format.{shapeOf, openOf}
 use Rattle.tables.specs.Datapath.{Performs, imageOf}
 use Rattle.reading.specs.Reading.{readOutcome, contentsOf, readAs, scanLines, readLines, readOpened, readOf}
 use Rattle.tables.specs.Generated.{Schedule, setOf}
+use Rattle.tables.specs.declared.Shape.{Shape}
 use Rattle.tables.specs.declared.Opened.the-variants.{Set, Refused}
 use Rattle.reading.specs.declared.Contents.{Contents}
 use Rattle.reading.specs.declared.Reading.the-variants.{Read, Refused as Unread}
@@ -51,9 +52,13 @@ module _ (file images scratch : List ℕ) where
   unfolding readOf readOpened
   read-unopened r h = rw h refl
 
+  pub read-shaped : (s : Shape) → openOf file ≡ Set s → readOf file images scratch ≡ readLines (s .words) (s .width) file images scratch
+  unfolding readOf readOpened
+  read-shaped s h = rw h refl
+
   read-opened : (n w : ℕ) → openOf file ≡ Set (shapeOf n w) → readOf file images scratch ≡ readLines n w file images scratch
-  unfolding readOf readOpened shapeOf
-  read-opened n w h = rw h refl
+  unfolding shapeOf
+  read-opened n w h = read-shaped (shapeOf n w) h
 
   -- memory is short, or the lines are scanned
   read-room : (n w : ℕ) → openOf file ≡ Set (shapeOf n w)

@@ -23,15 +23,13 @@ use Rattle.refusal.specs.declared.Refusal.{Refusal}
 use Rattle.network.specs.Network.{leaves}
 use Rattle.network.proofs.Carried.{leaves-kept}
 use Rattle.tables.specs.Terms.{cycles, depth}
-use Rattle.tables.specs.Format.{readAddress, switchBit, writeAddress, openOf}
+use Rattle.tables.specs.Format.{readAddress, switchBit, writeAddress}
 use Rattle.tables.specs.Datapath.{carriedTo, source, target, carryStrays, imageOf}
-use Rattle.reading.specs.Reading.{ReadOutcome, readOutcome, readFault, writeFault, contentsOf, readAs, scanLines, readLines, readOpened, readOf}
-use Rattle.tables.specs.declared.Shape.{Shape}
-use Rattle.tables.specs.declared.Opened.the-variants.{Set}
+use Rattle.reading.specs.Reading.{ReadOutcome, readOutcome, readFault, writeFault, contentsOf, readAs, scanLines, readScan, readLines}
 use Rattle.reading.specs.declared.Contents.{Contents}
 use Rattle.reading.specs.declared.Reading.the-variants.{Read, Refused as Unread}
 use Rattle.tables.specs.inner.Lines.{Line}
-use Rattle.reading.specs.inner.Gathering.{faulty, wordAt, placeAt, Gather, Markable, Marked}
+use Rattle.reading.specs.inner.Gathering.{faulty, wordAt, placeAt, Unmarked, Gather, Markable, Marked}
 use Rattle.tables.proofs.Dims.{Dims, word-below, word-injective, depth-reaches}
 use Rattle.tables.proofs.Accepted.{Accepted}
 use Rattle.reading.proofs.Scanned.{Passes, sound-below, sound-fresh, passes-accepted, accepted-scan, scan-passes}
@@ -39,20 +37,25 @@ use Rattle.tables.proofs.Targets.{source-found, image-permutes}
 use Rattle.tables.proofs.Lined.{read-is, write-is, source-is}
 use Rattle.reading.proofs.Marks.{faultAt}
 
+-- an array that was just made holds no marks
+pub unmarked-made : (m : ℕ) {n : ℕ} → n ≤ m → Unmarked n (replicate m noWord)
+unmarked-made m fits = record {
+  long = omega (arith, length-replicate {A = ℕ} m noWord);
+  none = λ i l. getD-replicate {A = ℕ} m i noWord 0 (omega arith);
+}
+
 -- nothing gathered
-pub gather-none : (n w : ℕ) (file : List ℕ) → Dims n w → Gather n w file 0 (replicate mostWords noWord) (replicate mostWords noWord)
-gather-none n w file D = record {
-  long = length-replicate {A = ℕ} mostWords noWord;
-  long′ = length-replicate {A = ℕ} mostWords noWord;
+pub gather-none : {n w : ℕ} (file : List ℕ) {places words : List ℕ} → Dims n w → Unmarked n places → Unmarked n words
+    → Gather n w file 0 places words
+gather-none {w = w} file D P W = record {
+  long = P .long;
+  long′ = W .long;
   passed = λ s l. absurd (omega arith);
   placed = λ s b l m. absurd (omega arith);
   worded = λ s b l m. absurd (omega arith);
-  unread = λ a b l m f. getD-replicate {A = ℕ} mostWords (a * w + b) noWord 0 (inside a b l m);
-  untaken = λ a b l m f. getD-replicate {A = ℕ} mostWords (a * w + b) noWord 0 (inside a b l m);
+  unread = λ a b l m f. P .none (a * w + b) (word-below D a b l m);
+  untaken = λ a b l m f. W .none (a * w + b) (word-below D a b l m);
 }
-  where
-    inside : (a b : ℕ) → a < cycles n w → b < w → a * w + b < mostWords
-    inside a b l m = omega (arith, word-below D a b l m, D .few)
 
 -- whether a mark stands where one of t earlier addresses of the bank equals this one
 mark-tells : (t : ℕ) (address : ℕ → ℕ) (x mark : ℕ) → ((s : ℕ) → s < t → address s ≡ x → mark ≡ noWord → ⊥)
@@ -183,6 +186,15 @@ module _ {n w : ℕ} {file : List ℕ} {t : ℕ} {places words reads sources wri
         let q = word-injective w (getD writes k 0) a k d l m e in
         (ap (writeAddress n w file t) (sym (q .1)) ∙ sym (write-is L k l) ∙ q .0, q .1)
 
+    -- they are those of a frame
+    word-few : (k : ℕ) → k < w → wordAt reads sources w k < n
+    unfolding source
+    word-few k l = rw (word-is k l)
+        (word-below D (readAddress n w file t (getD sources k 0)) (getD sources k 0) (now-read (getD sources k 0) (bank k l .0)) (bank k l .0))
+
+    place-few : (k : ℕ) → k < w → placeAt writes w k < n
+    place-few k l = rw (write-is L k l) (word-below D (writeAddress n w file t k) k (now-write k l) l)
+
     pub markable : Markable reads sources writes places words w
     unfolding source target
     markable = record {
@@ -190,17 +202,11 @@ module _ {n w : ℕ} {file : List ℕ} {t : ℕ} {places words reads sources wri
       reads-long = L .reading .long;
       sources-long = L .carrying .long;
       writes-long = L .writing .long;
-      places-long = G .long;
-      words-long = G .long′;
       banks = λ k l. bank k l .0;
-      words-below = λ k l. rw (word-is k l)
-          (omega (
-            arith,
-            word-below D (readAddress n w file t (getD sources k 0)) (getD sources k 0)
-                (now-read (getD sources k 0) (bank k l .0)) (bank k l .0),
-            D .few,
-          ));
-      places-below = λ k l. rw (write-is L k l) (omega (arith, word-below D (writeAddress n w file t k) k (now-write k l) l, D .few));
+      words-inside = λ k l. omega (arith, word-few k l, G .long);
+      places-inside = λ k l. omega (arith, place-few k l, G .long′);
+      words-below = λ k l. omega (arith, word-few k l, D .few);
+      places-below = λ k l. omega (arith, place-few k l, D .few);
       apart = λ j k l m e.
           let q = word-injective w (getD reads (getD sources j 0) 0) (getD reads (getD sources k 0) 0) (getD sources j 0) (getD sources k 0)
           (bank j l .0) (bank k m .0) e in
@@ -211,8 +217,8 @@ module _ {n w : ℕ} {file : List ℕ} {t : ℕ} {places words reads sources wri
     pub gather-more : {places′ words′ : List ℕ} → Marked reads sources writes w w places words places′ words′ → Gather n w file (t + 1) places′ words′
     unfolding source target
     gather-more {places′} {words′} M = record {
-      long = M .long ∙ G .long;
-      long′ = M .long′ ∙ G .long′;
+      long = omega (arith, M .long, G .long);
+      long′ = omega (arith, M .long′, G .long′);
       passed = λ s l. elim (decLt s t) [ yes m ↦ G .passed s m | no m ↦ let e : s ≡ t = omega arith in rw e (no-read, no-carry, no-write) ];
       placed = λ s b l m. elim (decLt s t) [
         | yes q ↦ M .kept (readAddress n w file s b * w + b)
@@ -322,23 +328,17 @@ module _ {n w : ℕ} {file : List ℕ} where
       gather-leavers D G j l
       ∙ inverse-ext n (imageOf n w file) (λ i. getD after i 0) j (λ i m. sym (getD-overwrite n (imageOf n w file) images i 0 m))
 
--- what reading answers with memory enough: a refused line's refusal, or that all lines passed
-module _ (file : List ℕ) {s : Shape} (opened : openOf file ≡ Set s) (D : Dims (s .words) (s .width)) (images scratch : List ℕ)
-    (room : mostWords ≤ length images) (scratch-room : 2 * mostWords ≤ length scratch) where
-  scanned : readOf file images scratch
-      ≡ scanLines (s .words) (s .width) file (cycles (s .words) (s .width)) 0 (λ r. readOutcome (Unread r) images)
-      (readAs (s .words) (s .width) file (overwrite (s .words) (imageOf (s .words) (s .width) file) images))
-  unfolding readOf readOpened readLines
-  scanned =
-      rw opened (sym (ifLt-no (length images) (s .words) _ _ _ (omega (arith, D .few))
-      (ifLt-no (length scratch) (2 * s .words) _ _ _ (omega (arith, D .few)) refl)))
+-- what reading a set of the right form answers with memory enough: a refused line's refusal, or that all lines passed
+module _ (n w : ℕ) (file images scratch : List ℕ) (room : n ≤ length images) (scratch-room : 2 * n ≤ length scratch) where
+  scanned : readLines n w file images scratch ≡ readScan n w file images
+  unfolding readLines
+  scanned = sym (ifLt-no (length images) n _ _ _ room (ifLt-no (length scratch) (2 * n) _ _ _ scratch-room refl))
 
   pub stopped-reads : {r : Refusal}
-      → ((refused : Refusal → ReadOutcome) (next : ReadOutcome)
-      → scanLines (s .words) (s .width) file (cycles (s .words) (s .width)) 0 refused next ≡ refused r)
-      → readOutcome (Unread r) images ≡ readOf file images scratch
+      → ((refused : Refusal → ReadOutcome) (next : ReadOutcome) → scanLines n w file (cycles n w) 0 refused next ≡ refused r)
+      → readOutcome (Unread r) images ≡ readLines n w file images scratch
   stopped-reads stops = sym (scanned ∙ stops (λ r. readOutcome (Unread r) images) _)
 
-  pub gathered-reads : {places words : List ℕ} → Gather (s .words) (s .width) file (cycles (s .words) (s .width)) places words
-      → readAs (s .words) (s .width) file (overwrite (s .words) (imageOf (s .words) (s .width) file) images) ≡ readOf file images scratch
+  pub gathered-reads : {places words : List ℕ} → Gather n w file (cycles n w) places words
+      → readAs n w file (overwrite n (imageOf n w file) images) ≡ readLines n w file images scratch
   gathered-reads G = sym (scanned ∙ gather-scan G (λ r. readOutcome (Unread r) images) _)

@@ -75,11 +75,11 @@ pub marked-more : {reads sources writes places₀ words₀ places words : List �
 marked-more {reads} {sources} {writes} {places₀} {words₀} {places} {words} {w} {k} A l M = record {
   long = length-set places _ _ ∙ M .long;
   long′ = length-set words _ _ ∙ M .long′;
-  placed = stored-turn places (wordAt reads sources w) (placeAt writes w) k (placeAt writes w k) 0 (omega (arith, A .words-below k l, A .places-long, M .long))
+  placed = stored-turn places (wordAt reads sources w) (placeAt writes w) k (placeAt writes w k) 0 (omega (arith, A .words-inside k l, M .long))
       (λ j m e. omega (arith, A .apart j k (omega arith) l e)) refl (M .placed);
   worded =
       stored-turn words (placeAt writes w) (wordAt reads sources w) k (wordAt reads sources w k) 0
-      (omega (arith, A .places-below k l, A .words-long, M .long′))
+      (omega (arith, A .places-inside k l, M .long′))
       (λ j m e. omega (arith, A .apart′ j k (omega arith) l e)) refl (M .worded);
   kept = λ i f. getD-set-other places (wordAt reads sources w k) i _ 0 (λ e. f k (omega arith) (sym e)) ∙ M .kept i (λ j m. f j (omega arith));
   kept′ = λ i f. getD-set-other words (placeAt writes w k) i _ 0 (λ e. f k (omega arith) (sym e)) ∙ M .kept′ i (λ j m. f j (omega arith));

@@ -51,12 +51,16 @@ scanLines n w file (suc k) t refused next =
     (choose (carryStrays n w file t) (refused (SpareLine t))
     (choose (any w (writeFault n w file t)) (refused (WriteAddress t)) (scanLines n w file k (t + 1) refused next)))
 
--- reading a set of the right form, of n words and width w: 12, then the lines; accepted, the first n images are written
+-- the lines of a set of the right form, of n words and width w: accepted, the first n images are written
+abbrev pub readScan : ℕ → ℕ → List ℕ → List ℕ → ReadOutcome
+readScan n w file images =
+    scanLines n w file (cycles n w) 0 (λ r. readOutcome (Unread r) images) (readAs n w file (overwrite n (imageOf n w file) images))
+
+-- reading a set of the right form: 12, then the lines
 unfoldable pub readLines : ℕ → ℕ → List ℕ → List ℕ → List ℕ → ReadOutcome
 readLines n w file images scratch =
     ifLt (length images) n (readOutcome (Unread BufferShort) images)
-    (ifLt (length scratch) (2 * n) (readOutcome (Unread BufferShort) images)
-    (scanLines n w file (cycles n w) 0 (λ r. readOutcome (Unread r) images) (readAs n w file (overwrite n (imageOf n w file) images))))
+    (ifLt (length scratch) (2 * n) (readOutcome (Unread BufferShort) images) (readScan n w file images))
 
 unfoldable pub readOpened : Opened → List ℕ → List ℕ → List ℕ → ReadOutcome
 readOpened (Set shape) file images scratch = readLines (shape .words) (shape .width) file images scratch

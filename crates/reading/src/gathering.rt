@@ -3,23 +3,24 @@
 ghost use mathlib.Core.Path.{_≡_};
 ghost use mathlib.Core.List.{List};
 ghost use Prim.Native.Nat.{ℕ, _+_, _*_, _<_, _≤_};
-ghost use lib.ListN.{length, getD, replicate};
-ghost use Rattle.limits.specs.Limits.{mostWords, mostWidth, noWord};
+ghost use lib.ListN.{length, getD};
+ghost use Rattle.limits.specs.Limits.{mostWords, shortWords, mostWidth};
 ghost use Rattle.laws.specs.Permutation.{inverse};
 ghost use Rattle.laws.specs.Tabulate.{overwrite};
 ghost use Rattle.tables.specs.Terms.{cycles};
 ghost use Rattle.tables.specs.Format.{Shaped};
 ghost use Rattle.tables.specs.inner.Lines.{Line};
-ghost use Rattle.reading.specs.Reading.{contentsOf, readOutcome, readLines, readOf};
+ghost use Rattle.reading.specs.Reading.{contentsOf, readOutcome, readScan, readLines, readOf};
 ghost use Rattle.reading.specs.declared.Contents.{Contents};
 ghost use Rattle.reading.specs.declared.Reading.the-variants.{Read};
-ghost use Rattle.reading.specs.inner.Gathering.{faulty, Gather, Gathers, Passes, GathersAll, Markable, Marked};
+ghost use Rattle.reading.specs.inner.Gathering.{faulty, Unmarked, Gather, Gathers, Passes, GathersAll, Markable, Marked};
 use crate::Contents;
 use crate::Reading;
 use limits::MOST_SWITCHES;
 use limits::MOST_WIDTH;
 use limits::MOST_WORDS;
 use limits::NO_WORD;
+use limits::SHORT_WORDS;
 use refusal::Refusal;
 use tables::Opened;
 use tables::Pass;
@@ -175,6 +176,63 @@ fn contents_of(shape: Shape, pass: Pass) -> Contents
     }
 }
 
+// Reads the lines of a set, by two lent arrays that hold no marks.
+fn read_by(
+    file: &[u8],
+    shape: Shape,
+    places: &mut [u16],
+    words: &mut [u16],
+    images: &mut [u16],
+) -> Reading
+    requires { ⌜ Shaped shape × (shape .words ≤ length (now images)) ⌝ }
+    requires { ⌜ Unmarked (shape .words) (now places) × Unmarked (shape .words) (now words) ⌝ }
+    ensures { λ r. ⌜ readOutcome r (now (images .exit)) ≡ readScan (shape .words) (shape .width) (now (file .entry)) (now (images .entry)) ⌝ }
+{
+    match gather(file, shape, places, words) {
+        Gathered::Refused(refusal) => Reading::Refused(refusal),
+        Gathered::All(pass) => {
+            write_images(places, images, shape.words);
+            Reading::Read(contents_of(shape, pass))
+        }
+    }
+}
+
+// Reads the lines of a set of the short form, by arrays for as many words: those for the longest frame would take longer to fill than a small
+// set takes to read.
+fn read_short(file: &[u8], shape: Shape, images: &mut [u16]) -> Reading
+    requires { ⌜ Shaped shape × (shape .words ≤ length (now images)) × (shape .words ≤ shortWords) ⌝ }
+    ensures { λ r. ⌜ readOutcome r (now (images .exit)) ≡ readScan (shape .words) (shape .width) (now (file .entry)) (now (images .entry)) ⌝ }
+{
+    let mut place_of = [NO_WORD; SHORT_WORDS];
+    let mut word_of = [NO_WORD; SHORT_WORDS];
+    read_by(file, shape, &mut place_of, &mut word_of, images)
+}
+
+// Reads the lines of any set.
+fn read_long(file: &[u8], shape: Shape, images: &mut [u16]) -> Reading
+    requires { ⌜ Shaped shape × (shape .words ≤ length (now images)) ⌝ }
+    ensures { λ r. ⌜ readOutcome r (now (images .exit)) ≡ readScan (shape .words) (shape .width) (now (file .entry)) (now (images .entry)) ⌝ }
+{
+    let mut place_of = [NO_WORD; MOST_WORDS];
+    let mut word_of = [NO_WORD; MOST_WORDS];
+    read_by(file, shape, &mut place_of, &mut word_of, images)
+}
+
+// Reads the lines of a set by the smaller arrays that have room for its frame, of `size` words or more. It calls itself for the next size, so
+// that no compiler joins its callers' stack with that of both sizes: a short set does not pay for the arrays of long ones.
+fn read_within(file: &[u8], shape: Shape, images: &mut [u16], size: usize) -> Reading
+    requires { ⌜ Shaped shape × (shape .words ≤ length (now images)) × (0 < size) × (size ≤ mostWords) ⌝ }
+    ensures { λ r. ⌜ readOutcome r (now (images .exit)) ≡ readScan (shape .words) (shape .width) (now (file .entry)) (now (images .entry)) ⌝ }
+{
+    if size < shape.words {
+        return read_within(file, shape, images, MOST_WORDS);
+    }
+    if size <= SHORT_WORDS {
+        return read_short(file, shape, images);
+    }
+    read_long(file, shape, images)
+}
+
 // Reads a set of the right form.
 fn read_set(file: &[u8], shape: Shape, images: &mut [u16], scratch: &[u16]) -> Reading
     requires { ⌜ Shaped shape ⌝ }
@@ -188,15 +246,7 @@ fn read_set(file: &[u8], shape: Shape, images: &mut [u16], scratch: &[u16]) -> R
     if scratch.len() < 2 * words {
         return Reading::Refused(Refusal::BufferShort);
     }
-    let mut place_of = [NO_WORD; MOST_WORDS];
-    let mut word_of = [NO_WORD; MOST_WORDS];
-    match gather(file, shape, &mut place_of, &mut word_of) {
-        Gathered::Refused(refusal) => Reading::Refused(refusal),
-        Gathered::All(pass) => {
-            write_images(&place_of, images, words);
-            Reading::Read(contents_of(shape, pass))
-        }
-    }
+    read_within(file, shape, images, SHORT_WORDS)
 }
 
 // Reads a set: what it contains, and the permutation that it performs in the first n images. Scratch is lent and not written.
@@ -209,23 +259,17 @@ pub fn read(file: &[u8], images: &mut [u16], scratch: &[u16]) -> Reading
     }
 }
 
-// Reads a set: what it contains, and the word that leaves at each place below n. It answers as reading with memory enough, and the words are
-// the inverse of the images that reading writes. Only our own crates call it, with an array that holds no marks.
-pub fn read_leavers(file: &[u8], leavers: &mut [u16]) -> Reading
-    requires { ⌜ now leavers ≡ replicate mostWords noWord ⌝ }
-    ensures { λ r. ⌜ ((images scratch : List ℕ) → mostWords ≤ length images → 2 * mostWords ≤ length scratch
-        → (after : List ℕ) × (readOutcome r after ≡ readOf (now (file .entry)) images scratch)
+// Reads a set of the right form by two lent arrays that hold no marks: what it contains, and the word that leaves at each place below n. It
+// answers as reading with memory enough, and the words are the inverse of the images that reading writes. Only our own crates call it.
+pub fn read_leavers(file: &[u8], shape: Shape, places: &mut [u16], leavers: &mut [u16]) -> Reading
+    requires { ⌜ Shaped shape × Unmarked (shape .words) (now places) × Unmarked (shape .words) (now leavers) ⌝ }
+    ensures { λ r. ⌜ ((images scratch : List ℕ) → shape .words ≤ length images → 2 * shape .words ≤ length scratch
+        → (after : List ℕ) × (readOutcome r after ≡ readLines (shape .words) (shape .width) (now (file .entry)) images scratch)
         × ((contents : Contents) → r ≡ Read contents → (j : ℕ) → j < contents .words
         → getD (now (leavers .exit)) j 0 ≡ inverse (contents .words) (λ i. getD after i 0) j)) ⌝ }
 {
-    match open(file) {
-        Opened::Refused(refusal) => Reading::Refused(refusal),
-        Opened::Set(shape) => {
-            let mut place_of = [NO_WORD; MOST_WORDS];
-            match gather(file, shape, &mut place_of, leavers) {
-                Gathered::Refused(refusal) => Reading::Refused(refusal),
-                Gathered::All(pass) => Reading::Read(contents_of(shape, pass)),
-            }
-        }
+    match gather(file, shape, places, leavers) {
+        Gathered::Refused(refusal) => Reading::Refused(refusal),
+        Gathered::All(pass) => Reading::Read(contents_of(shape, pass)),
     }
 }

@@ -89,7 +89,8 @@ pub fn set(width: usize, images: &[u16], values: &mut [u8]) -> Setting
     if values.len() < count {
         return Setting::Refused(Refusal::BufferShort);
     }
-    match images::check(images, width) {
+    let mut seen = [0u8; MOST_WIDTH];
+    match images::check(images, width, &mut seen) {
         Checked::Refused(refusal) => Setting::Refused(refusal),
         Checked::Permutation => {
             set_images(width, images, &mut values[..count]);

@@ -1,4 +1,4 @@
--- Valid dimensions, and the numbers that they determine: c times w is n, 2 ^ a is at least c and a at most 12, the network has w lines or
+-- Valid dimensions, and the numbers that they determine: c times w is n, 2 ^ a is at least c and a at most 14, the network has w lines or
 -- more and at most 64, and the whole set is far from any overflow. `logUp` is the first power of two that is large enough, found by search.
 use Prim.Native.Nat.{ℕ, zero, suc, _+_, _*_, _/_, _%_, _^_, _<_, _≤_}
 use mathlib.Core.Path.{_≡_, sym, ap, _∙_}
@@ -11,9 +11,10 @@ use Rattle.limits.specs.Limits.{mostWords, mostWidth, mostSwitches}
 use Rattle.laws.proofs.Choices.{ifLe-cases}
 use Rattle.network.specs.Network.{bitCount}
 use Rattle.network.proofs.Counts.{bitCount-few}
-use Rattle.tables.specs.Header.{headerBits, leastHeader}
+use Rattle.tables.specs.Header.{headerBytes, headerBits}
 use Rattle.tables.specs.Terms.{logFrom, logUp, cycles, addressBits, depth, switchBits, addressRow, lineBits, fileLength}
 use Rattle.tables.specs.Format.{lineAt}
+use Rattle.tables.proofs.Header.{bytes-few}
 pub use Rattle.tables.specs.Terms.{Dims}
 
 -- ---- the first power of two that is large enough
@@ -73,9 +74,9 @@ module _ {n w : ℕ} (D : Dims n w) where
   unfolding addressBits
   cycles-reached = logUp-reaches (cycles n w)
 
-  pub addressBits-few : addressBits n w ≤ 12
+  pub addressBits-few : addressBits n w ≤ 14
   unfolding addressBits
-  addressBits-few = logUp-least (cycles n w) 12 (omega (arith, cycles-few))
+  addressBits-few = logUp-least (cycles n w) 14 (omega (arith, cycles-few))
 
   pub depth-few : depth w ≤ 6
   unfolding depth
@@ -88,11 +89,11 @@ module _ {n w : ℕ} (D : Dims n w) where
   unfolding switchBits
   switchBits-few = bitCount-few (depth w) depth-few
 
-  pub addressRow-few : addressRow n w ≤ 768
+  pub addressRow-few : addressRow n w ≤ 896
   unfolding addressRow
   addressRow-few = omega (arith, mul-le-mul (D .narrow) addressBits-few)
 
-  pub lineBits-few : lineBits n w ≤ 1857
+  pub lineBits-few : lineBits n w ≤ 2113
   unfolding lineBits
   lineBits-few = omega (arith, addressRow-few, switchBits-few)
 
@@ -129,19 +130,19 @@ unfolding lineAt
 lineAt-order n w t s l = omega (arith, suc-mul t (lineBits n w), mul-le-mul-right {m = suc t} {n = s} (lineBits n w) l)
 
 -- the whole set is far from any overflow
-pub lineAt-few : {n w : ℕ} → Dims n w → (t : ℕ) → t ≤ cycles n w → lineAt n w t ≤ 2 ^ 24
-unfolding lineAt headerBits
-lineAt-few D t l = omega (arith, cycles-few D, mul-le-mul {n₁ = t} {n₂ = mostWords} (omega (arith, cycles-few D)) (lineBits-few D))
+pub lineAt-few : {n w : ℕ} → Dims n w → (t : ℕ) → t ≤ cycles n w → lineAt n w t ≤ 2 ^ 26
+unfolding lineAt
+lineAt-few {n} D t l = omega (arith, bytes-few n, cycles-few D, mul-le-mul {n₁ = t} {n₂ = mostWords} (omega (arith, cycles-few D)) (lineBits-few D))
 
 -- the file's last byte holds the last line's end, or what is filled up behind it
 pub fileLength-reaches : (n w : ℕ) → lineAt n w (cycles n w) ≤ 8 * fileLength n w
-unfolding fileLength lineAt headerBits
+unfolding fileLength lineAt
 fileLength-reaches n w = omega arith
 
 pub fileLength-tight : (n w : ℕ) → 8 * fileLength n w < lineAt n w (cycles n w) + 8
-unfolding fileLength lineAt headerBits
+unfolding fileLength lineAt
 fileLength-tight n w = omega arith
 
-pub fileLength-header : (n w : ℕ) → leastHeader ≤ fileLength n w
-unfolding fileLength headerBits
+pub fileLength-header : (n w : ℕ) → headerBytes n ≤ fileLength n w
+unfolding fileLength
 fileLength-header n w = omega arith

@@ -1,5 +1,5 @@
 -- A file opens exactly where it has the form of a set: each of the tests, in their order, decides one of the facts of `Form`. The header's
--- bits and its three fields determine each other, and so do the filling bits and the number that they write. A file in the form opens as the
+-- bits and its fields determine each other, and so do the filling bits and the number that they write. A file in the form opens as the
 -- n and w that its header says, so it has the form for one n and w only.
 use Prim.Native.Nat.{ℕ, suc, _+_, _*_, _-_, _<_, _≤_}
 use mathlib.Core.Path.{_≡_, refl, sym, ap, subst₂, subst, _∙_}
@@ -16,8 +16,8 @@ use Rattle.bits.proofs.Fields.{bit-field, field-digits}
 use Rattle.refusal.specs.declared.Refusal.{Refusal}
 use Rattle.refusal.specs.declared.Refusal.the-variants.{FileShort, Header, FileLong}
 use Rattle.tables.specs.Terms.{cycles, fileLength}
-use Rattle.tables.specs.Header.{leastHeader, headerWords, headerWidth, headerZeros}
-use Rattle.tables.specs.Format.{lineAt, filling, Form, shapeOf, Shaped, headerTest, lengthTest, openOf}
+use Rattle.tables.specs.Header.{shortBytes, headerWords, headerWidth, neededBytes}
+use Rattle.tables.specs.Format.{lineAt, filling, Form, shapeOf, Shaped, lengthTest, openOf}
 use Rattle.tables.specs.Generated.{Schedule, setOf}
 use Rattle.tables.specs.declared.Shape.{Shape}
 use Rattle.tables.specs.declared.Opened.{Opened}
@@ -26,8 +26,8 @@ use Rattle.tables.proofs.Dims.{Dims, fileLength-header}
 use Rattle.tables.proofs.Opens.{shape-own}
 use Rattle.tables.proofs.SetBits.{digit-none, length-setOf}
 use Rattle.tables.proofs.ReadsBack.{setOf-begins, filling-setOf}
-use Rattle.tables.proofs.LimitTests.{dims-passes, dims-cases}
-use Rattle.tables.proofs.Header.{begins-opens, opens-begins}
+use Rattle.tables.proofs.Header.{Says, bytes-few, begins-says, says-words, says-needed}
+use Rattle.tables.proofs.HeaderTests.{header-cases, header-passes}
 
 -- ---- the filling
 
@@ -53,21 +53,21 @@ module _ (n w : ℕ) (file : List ℕ) where
 -- ---- what the header of a file in the form says
 
 module _ {n w : ℕ} {file : List ℕ} (F : Form n w file) where
+  says : Says n w file
+  says = begins-says file (F .dims) (F .begins)
+
   pub form-words : headerWords file ≡ n
-  form-words = begins-opens file (F .dims) (F .begins) .0
+  form-words = says-words (F .dims .some) says
 
   pub form-width : headerWidth file ≡ w
-  form-width = begins-opens file (F .dims) (F .begins) .1
-
-  form-zeros : headerZeros file ≡ 0
-  form-zeros = begins-opens file (F .dims) (F .begins) .2
+  form-width = says .width
 
   -- it opens
   pub form-opened : openOf file ≡ Set (shapeOf n w)
-  unfolding openOf headerTest lengthTest
-  form-opened = rw (form-words, form-width, dims-passes (Refused Header) _ (F .dims)) (sym (
-      ifLt-no (length file) leastHeader _ _ _ (omega (arith, F .long, fileLength-header n w)) (
-      ifEq-yes (headerZeros file) 0 _ _ _ form-zeros (
+  unfolding openOf lengthTest
+  form-opened = rw (form-words, form-width, header-passes file _ (F .dims) (F .begins)) (sym (
+      ifLt-no (length file) shortBytes _ _ _ (omega (arith, F .long, fileLength-header n w, bytes-few n)) (
+      ifLt-no (length file) (neededBytes file) _ _ _ (omega (arith, F .long, fileLength-header n w, says-needed (F .dims .some) says)) (
       ifLt-no (length file) (fileLength n w) _ _ _ (omega (arith, F .long)) (
       ifLt-no (fileLength n w) (length file) _ _ _ (omega (arith, F .long)) (
       ifEq-yes (filling n w file) 0 _ _ _ (filled-filling n w file (F .filled)) refl))))))
@@ -82,20 +82,19 @@ form-same F G = (sym (form-words F) ∙ form-words G, sym (form-width F) ∙ for
 pub open-cases : (file : List ℕ)
     → ((openOf file ≡ Set (shapeOf (headerWords file) (headerWidth file))) × Form (headerWords file) (headerWidth file) file)
     ⊎ ((r : Refusal) × (openOf file ≡ Refused r))
-unfolding openOf headerTest lengthTest
+unfolding openOf lengthTest
 open-cases file =
     let n : ℕ = headerWords file in
     let w : ℕ = headerWidth file in
-    ifLt-cases Judged (length file) leastHeader _ _ (λ _. inr (FileShort, refl)) λ l.
-    dims-cases Judged n w _ _ (inr (Header, refl)) λ dims.
-    ifEq-cases Judged (headerZeros file) 0 _ _ (λ zeros.
+    ifLt-cases Judged (length file) shortBytes _ _ (λ _. inr (FileShort, refl)) λ _.
+    ifLt-cases Judged (length file) (neededBytes file) _ _ (λ _. inr (FileShort, refl)) λ _.
+    header-cases Judged file _ (inr (Header, refl)) λ dims begins.
     ifLt-cases Judged (length file) (fileLength n w) _ _ (λ _. inr (FileShort, refl)) λ enough.
     ifLt-cases Judged (fileLength n w) (length file) _ _ (λ _. inr (FileLong, refl)) λ exact.
     ifEq-cases Judged (filling n w file) 0 _ _ (λ none. inl (
       refl,
-      record { dims = dims; begins = opens-begins file refl refl zeros; long = omega arith; filled = filling-filled n w file none },
-    )) (λ _. inr (FileLong, refl)))
-    (λ _. inr (Header, refl))
+      record { dims = dims; begins = begins; long = omega arith; filled = filling-filled n w file none },
+    )) (λ _. inr (FileLong, refl))
   where
     Judged : Opened → Type 0
     Judged o = ((o ≡ Set (shapeOf (headerWords file) (headerWidth file))) × Form (headerWords file) (headerWidth file) file)

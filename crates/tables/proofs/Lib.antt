@@ -4,6 +4,7 @@ pub mod Padded
 pub mod Longest
 pub mod LimitTests
 pub mod Header
+pub mod HeaderTests
 pub mod Form
 -- What reading accepts, what the lines of such a set do to a frame, and that no other set performs a permutation.
 pub mod Accepted

@@ -8,21 +8,23 @@ use native.Mathlib.Nat.{pow-suc, pow-le-pow-right}
 use native.Mathlib.Decide.{decLe}
 use lib.Count.{leadingZeros, leading-length}
 use lib.ListN.{length}
-use Rattle.limits.specs.Limits.{mostSwitches}
-use Rattle.laws.specs.Choice.{ifEq}
-use Rattle.laws.proofs.Choices.{ifLt-no, ifEq-yes, ifEq-no}
+use Rattle.limits.specs.Limits.{shortWords, mostSwitches}
+use Rattle.laws.specs.Choice.{ifLt, ifEq}
+use Rattle.laws.proofs.Choices.{ifLt-yes, ifLt-no, ifLt-cases, ifEq-yes, ifEq-no}
 use Rattle.refusal.specs.declared.Refusal.{Refusal}
-use Rattle.refusal.specs.declared.Refusal.the-variants.{Header}
+use Rattle.refusal.specs.declared.Refusal.the-variants.{FileShort, Header}
 use Rattle.bits.proofs.Digits.{one-shl}
 use Rattle.network.specs.Network.{bitCount}
-use Rattle.tables.specs.Header.{headerBits, leastHeader, headerWords, headerWidth, headerZeros}
+use Rattle.bits.specs.Bits.{field}
+use Rattle.tables.specs.Header.{shortBytes, longBytes, headerBytes, headerBits, headerFirst, headerWidth, headerMark, neededBytes}
 use Rattle.tables.specs.Terms.{Dims, dimsTest, limitsOf, logUp, cycles, addressBits, depth, switchBits, addressRow, lineBits, fileLength}
 use Rattle.tables.specs.Format.{lineAt, shapeOf, Shaped, headerTest, lengthTest, openOf}
 use Rattle.tables.specs.declared.Shape.{Shape}
 use Rattle.tables.specs.declared.Opened.{Opened}
 use Rattle.tables.specs.declared.Opened.the-variants.{Refused}
 use Rattle.tables.specs.declared.Limits.the-variants.{Kept, Refused as Unkept}
-use Rattle.tables.proofs.LimitTests.{limit-passes, limits-kept, limits-refused, dims-cases, dims-passes}
+use Rattle.tables.proofs.LimitTests.{limit-passes, limits-kept, limits-refused}
+use Rattle.tables.proofs.Header.{form-long, form-short, words-long, words-short, needed-long, needed-short}
 use Rattle.tables.proofs.Dims.{logUp-least, logUp-reaches, depth-few, addressRow-few, switchBits-few}
 
 -- ---- the least power of two that is large enough
@@ -47,11 +49,11 @@ log-up-digits x some fits = elim (decLe digits (logUp x)) [
 
 -- the parts as the code works them out: the bits of an address, the depth of the network and its switches
 module _ {n w a d s : ℕ} (D : Dims n w) (address : a ≡ logUp (n / w)) (deep : d ≡ logUp w) (switches : s ≡ bitCount d) where
-  pub parts-few : (w * a ≤ 768) × (s ≤ mostSwitches)
+  pub parts-few : (w * a ≤ 896) × (s ≤ mostSwitches)
   unfolding addressRow addressBits cycles switchBits depth
   parts-few = (rw address (addressRow-few D), rw (switches, deep) (switchBits-few D))
 
-  pub shape-made : _≡_ {A = Shape}
+  pub shape-made : {h : ℕ} → h ≡ headerBytes n → _≡_ {A = Shape}
       (record {
         words = n;
         width = w;
@@ -59,12 +61,12 @@ module _ {n w a d s : ℕ} (D : Dims n w) (address : a ≡ logUp (n / w)) (deep 
         addressing = a;
         lines = 1 * 2 ^ d % 2 ^ 64;
         switches = s;
-        start = 24;
+        start = 8 * h;
         stride = w * a + (s + w * a);
       })
       (shapeOf n w)
-  unfolding shapeOf cycles addressBits depth switchBits lineBits addressRow headerBits
-  shape-made = let few : d ≤ 6 = rw deep (depth-few D) in rw (one-shl 64 d (omega arith), address, switches, deep)
+  unfolding shapeOf cycles addressBits depth switchBits lineBits addressRow
+  shape-made header = let few : d ≤ 6 = rw deep (depth-few D) in rw (one-shl 64 d (omega arith), address, switches, deep, header)
 
 -- a shape is that of its own words and width
 pub shape-same : {s : Shape} → Shaped s → s ≡ shapeOf (s .words) (s .width)
@@ -105,34 +107,82 @@ module _ {n w : ℕ} {s : Shape} (D : Dims n w) (e : s ≡ shapeOf n w) where
   -- the bytes of a set
   pub shape-length : s .start / 8 + (s .cycles * s .stride + 7) / 8 ≡ fileLength n w
   unfolding fileLength shapeOf
-  shape-length = ap (λ (z : Shape). z .start / 8 + (z .cycles * z .stride + 7) / 8) e
+  shape-length =
+      ap (λ (z : Shape). z .start / 8 + (z .cycles * z .stride + 7) / 8) e
+      ∙ ap (λ (z : ℕ). z + (cycles n w * lineBits n w + 7) / 8) (let whole : headerBits n / 8 ≡ headerBytes n = omega arith in whole)
 
   pub shape-fileLength : fileLength (s .words) (s .width) ≡ fileLength n w
   unfolding shapeOf
   shape-fileLength = ap (λ (z : Shape). fileLength (z .words) (z .width)) e
 
+-- ---- the tests of n and w, as the code makes them
+
+module _ {X : Type 0} (n w : ℕ) (refused next : X) where
+  pub dims-broken : (r : Refusal) → limitsOf n w ≡ Unkept r → dimsTest n w refused next ≡ refused
+  unfolding dimsTest
+  dims-broken r broken = limits-refused n w r (λ _. refused) _ broken
+
+  pub dims-uneven : limitsOf n w ≡ Kept → (n % w ≡ 0 → ⊥) → dimsTest n w refused next ≡ refused
+  unfolding dimsTest
+  dims-uneven kept uneven = limit-passes (λ _. refused) _ (limits-kept n w kept) ∙ sym (ifEq-no (n % w) 0 _ _ _ uneven refl)
+
 -- ---- a header
 
--- the tests of a file with a header that says n and w, and z in its last bits: none of them, where z is not 0 or a limit is broken, else
--- those of the whole file
-module _ {n w z : ℕ} (file : List ℕ) (words : n ≡ headerWords file) (width : w ≡ headerWidth file) (zeros : z ≡ headerZeros file)
-    (long : leastHeader ≤ length file) where
-  opened : openOf file ≡ dimsTest n w (Refused Header) (ifEq z 0 (lengthTest n w file) (Refused Header))
+-- the tests of a file whose header has x in its first 13 bits, then w, then z
+module _ {x w z : ℕ} (file : List ℕ) (first : x ≡ headerFirst file) (width : w ≡ headerWidth file) (mark : z ≡ headerMark file)
+    (some : shortBytes ≤ length file) where
+  -- in the short form n is x
+  pub opened-short : (x ≡ 0 → z ≡ 1 → ⊥)
+      → openOf file ≡ ifLt shortWords x (Refused Header) (ifEq z 0 (dimsTest x w (Refused Header) (lengthTest x w file)) (Refused Header))
   unfolding openOf headerTest
-  opened = rw (words, width, zeros) (sym (ifLt-no (length file) leastHeader _ _ _ long refl))
+  opened-short other =
+      sym (ifLt-no (length file) shortBytes _ _ _ some (ifLt-no (length file) (neededBytes file) _ _ _ (omega (arith, needed-short file short)) refl))
+      ∙ form-short file _ _ short ∙ rw (words-short file short, width, mark, first) refl
+    where
+      short : headerFirst file ≡ 0 → headerMark file ≡ 1 → ⊥
+      short none one = other (first ∙ none) (mark ∙ one)
 
-  pub opened-zeros : (z ≡ 0 → ⊥) → openOf file ≡ Refused Header
-  opened-zeros set =
-      opened ∙ dims-cases (λ (o : Opened). o ≡ Refused Header) n w (Refused Header) _ refl (λ _. sym (ifEq-no z 0 _ _ _ set refl))
+  -- in the long form n stands behind
+  opened-long : {n : ℕ} → x ≡ 0 → z ≡ 1 → n ≡ field file 24 16
+      → openOf file
+      ≡ ifLt (length file) longBytes (Refused FileShort)
+      (ifLt shortWords n (dimsTest n w (Refused Header) (lengthTest n w file)) (Refused Header))
+  unfolding openOf headerTest
+  opened-long {n} none one behind =
+      sym (ifLt-no (length file) shortBytes _ _ _ some refl)
+      ∙ rw (needed-long file clear set, width, behind)
+      (ap (ifLt (length file) longBytes (Refused FileShort)) (form-long file _ _ clear set ∙ rw (words-long file clear set) refl))
+    where
+      clear : headerFirst file ≡ 0
+      clear = sym first ∙ none
 
-  pub opened-broken : (r : Refusal) → limitsOf n w ≡ Unkept r → openOf file ≡ Refused Header
-  unfolding dimsTest
-  opened-broken r broken = opened ∙ limits-refused n w r (λ _. Refused Header) _ broken
+      set : headerMark file ≡ 1
+      set = sym mark ∙ one
 
-  pub opened-uneven : limitsOf n w ≡ Kept → (n % w ≡ 0 → ⊥) → openOf file ≡ Refused Header
-  unfolding dimsTest
-  opened-uneven kept uneven =
-      opened ∙ limit-passes (λ _. Refused Header) _ (limits-kept n w kept) ∙ sym (ifEq-no (n % w) 0 _ _ _ uneven refl)
+  -- refused by 7: one of the four bits is set and the form is not long
+  pub opened-marked : (z ≡ 0 → ⊥) → (x ≡ 0 → z ≡ 1 → ⊥) → openOf file ≡ Refused Header
+  opened-marked set other =
+      opened-short other
+      ∙ ifLt-cases (λ (o : Opened). o ≡ Refused Header) shortWords x _ _ (λ _. refl) (λ _. sym (ifEq-no z 0 _ _ _ set refl))
 
-  pub opened-kept : z ≡ 0 → Dims n w → openOf file ≡ lengthTest n w file
-  opened-kept clear D = opened ∙ dims-passes (Refused Header) _ D ∙ sym (ifEq-yes z 0 _ _ _ clear refl)
+  -- or the short form says more words than it has room for
+  pub opened-above : z ≡ 0 → shortWords < x → openOf file ≡ Refused Header
+  opened-above clear many = opened-short (λ _ one. omega arith) ∙ sym (ifLt-yes shortWords x _ _ _ many refl)
+
+  pub opened-clear : z ≡ 0 → x ≤ shortWords → openOf file ≡ dimsTest x w (Refused Header) (lengthTest x w file)
+  opened-clear clear few =
+      opened-short (λ _ one. omega arith) ∙ sym (ifLt-no shortWords x _ _ _ few (ifEq-yes z 0 _ _ _ clear refl))
+
+  module _ {n : ℕ} (none : x ≡ 0) (one : z ≡ 1) (behind : n ≡ field file 24 16) where
+    pub opened-cut : length file < longBytes → openOf file ≡ Refused FileShort
+    opened-cut short = opened-long none one behind ∙ sym (ifLt-yes (length file) longBytes _ _ _ short refl)
+
+    pub opened-below : longBytes ≤ length file → n ≤ shortWords → openOf file ≡ Refused Header
+    opened-below long few =
+        opened-long none one behind
+        ∙ sym (ifLt-no (length file) longBytes _ _ _ long (ifLt-no shortWords n _ _ _ few refl))
+
+    pub opened-behind : longBytes ≤ length file → shortWords < n → openOf file ≡ dimsTest n w (Refused Header) (lengthTest n w file)
+    opened-behind long many =
+        opened-long none one behind
+        ∙ sym (ifLt-no (length file) longBytes _ _ _ long (ifLt-yes shortWords n _ _ _ many refl))

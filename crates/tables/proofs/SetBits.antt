@@ -91,7 +91,7 @@ module _ (n w : ℕ) (p : ℕ → ℕ) (reads : ℕ → ℕ → ℕ) where
       (omega (arith, length-headerOf n w, length-joined (lineBits n w) (lineOf n w p reads) (cycles n w) (λ t l. length-lineOf t)))
 
   pub length-setOf : length (setOf n w p reads) ≡ fileLength n w
-  unfolding setOf fileLength lineAt headerBits
+  unfolding setOf fileLength lineAt
   length-setOf = length-packed (setBits n w p reads) ∙ rw length-setBits (omega arith)
 
   -- the header

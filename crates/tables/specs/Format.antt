@@ -3,6 +3,7 @@ use Prim.Native.Nat.{ℕ, _+_, _*_, _-_, _^_, _<_, _≤_}
 use mathlib.Core.Path.{_≡_}
 use mathlib.Core.List.{List}
 use lib.ListN.{length}
+use Rattle.limits.specs.Limits.{shortWords}
 use Rattle.laws.specs.Choice.{ifLt, ifEq}
 use Rattle.laws.specs.Sum.{sum}
 use Rattle.bits.specs.Bits.{bit, field}
@@ -10,7 +11,7 @@ use Rattle.bits.specs.declared.reader.Cursor.{Cursor}
 use Rattle.network.specs.Network.{crossings}
 use Rattle.refusal.specs.declared.Refusal.the-variants.{FileShort, Header, FileLong}
 use Rattle.tables.specs.Terms.{Dims, cycles, addressBits, depth, switchBits, addressRow, lineBits, fileLength, dimsTest}
-use Rattle.tables.specs.Header.{headerBits, Begins, leastHeader, headerWords, headerWidth, headerZeros}
+use Rattle.tables.specs.Header.{headerBits, Begins, shortBytes, headerWidth, headerMark, byForm, headerWords, neededBytes}
 use Rattle.tables.specs.declared.Shape.{Shape}
 use Rattle.tables.specs.declared.Opened.{Opened}
 use Rattle.tables.specs.declared.Opened.the-variants.{Set, Refused}
@@ -78,10 +79,15 @@ pub record Shaped (s : Shape) : Type 0 where
   pub start : s .start ≡ headerBits (s .words)
   pub stride : s .stride ≡ lineBits (s .words) (s .width)
 
--- 7: "the header breaks a limit, w does not divide n, or one of its four last bits is set"
+-- 7: "the header breaks a limit, w does not divide n, or one of its four last bits is set". Which n a form may have is a limit too: in the
+-- short form n "above 4,096", in the long form "n of 4,096 or less or above 16,384"
 unfoldable pub headerTest : List ℕ → Opened → Opened
 headerTest file next =
-    dimsTest (headerWords file) (headerWidth file) (Refused Header) (ifEq (headerZeros file) 0 next (Refused Header))
+    let n : ℕ = headerWords file in
+    let tested : Opened = dimsTest n (headerWidth file) (Refused Header) next in
+    byForm file
+    (ifLt shortWords n tested (Refused Header))
+    (ifLt shortWords n (Refused Header) (ifEq (headerMark file) 0 tested (Refused Header)))
 
 -- the tests of a whole file for its n and w: its length, and the filling
 unfoldable pub lengthTest : ℕ → ℕ → List ℕ → Opened
@@ -89,7 +95,9 @@ lengthTest n w file =
     ifLt (length file) (fileLength n w) (Refused FileShort)
     (ifLt (fileLength n w) (length file) (Refused FileLong) (ifEq (filling n w file) 0 (Set (shapeOf n w)) (Refused FileLong)))
 
--- the tests of a file's form in their order: 6 for the header, 7, 6 for the whole, 8
+-- the tests of a file's form in their order: 6 for the header of either form, 7, 6 for the whole, 8
 unfoldable pub openOf : List ℕ → Opened
 openOf file =
-    ifLt (length file) leastHeader (Refused FileShort) (headerTest file (lengthTest (headerWords file) (headerWidth file) file))
+    ifLt (length file) shortBytes (Refused FileShort)
+    (ifLt (length file) (neededBytes file) (Refused FileShort)
+    (headerTest file (lengthTest (headerWords file) (headerWidth file) file)))

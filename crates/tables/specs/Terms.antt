@@ -6,18 +6,18 @@ use Rattle.laws.specs.Choice.{ifLt, ifLe, ifEq}
 use Rattle.refusal.specs.declared.Refusal.{Refusal}
 use Rattle.refusal.specs.declared.Refusal.the-variants.{FrameSize, Width}
 use Rattle.network.specs.Network.{bitCount}
-use Rattle.tables.specs.Header.{headerBits}
+use Rattle.tables.specs.Header.{headerBytes}
 use Rattle.tables.specs.declared.Limits.{Limits}
 use Rattle.tables.specs.declared.Limits.the-variants.{Kept, Refused}
 
--- n is 1 to 4,096, and w is 1 to 64
+-- n is 1 to 16,384, and w is 1 to 64
 pub record Limited (n w : ℕ) : Type 0 where
   pub some : 0 < n
   pub few : n ≤ mostWords
   pub wide : 0 < w
   pub narrow : w ≤ mostWidth
 
--- the dimensions of a set: n is 1 to 4,096, w is 1 to 64, and w divides n
+-- the dimensions of a set: n is 1 to 16,384, w is 1 to 64, and w divides n
 pub record Dims (n w : ℕ) : Type 0 where
   pub some : 0 < n
   pub few : n ≤ mostWords
@@ -79,6 +79,6 @@ lineBits n w = addressRow n w + (switchBits w + addressRow n w)
 abbrev pub setLineBits : ℕ → ℕ → ℕ
 setLineBits n w = cycles n w * lineBits n w
 
--- "length in bytes: 3 + ceil(c(2wa + B)/8)", where 3 is the header's
+-- "length in bytes: 3 + ceil(c(2wa + B)/8)", and above 4,096 words "the length formula starts from 5"
 unfoldable pub fileLength : ℕ → ℕ → ℕ
-fileLength n w = headerBits n / 8 + (setLineBits n w + 7) / 8
+fileLength n w = headerBytes n + (setLineBits n w + 7) / 8

@@ -3,7 +3,8 @@ ghost use mathlib.Core.Path.{_≡_};
 ghost use Prim.Native.Nat.{_+_, _*_, _-_, _%_, _<_};
 ghost use lib.ListN.{length};
 ghost use Rattle.bits.specs.Bits.{field};
-ghost use Rattle.tables.specs.Terms.{Dims, logUp, fileLength, limitsOf};
+ghost use Rattle.tables.specs.Header.{headerBytes};
+ghost use Rattle.tables.specs.Terms.{Dims, logUp, fileLength, limitsOf, dimsTest};
 ghost use Rattle.refusal.specs.declared.Refusal.the-variants.{Header};
 ghost use Rattle.tables.specs.Format.{shapeOf, Shaped, lengthTest, openOf};
 ghost use Rattle.tables.specs.declared.Opened.{Opened};
@@ -14,12 +15,15 @@ use crate::Shape;
 use bits::Cursor;
 use limits::MOST_WIDTH;
 use limits::MOST_WORDS;
+use limits::SHORT_WORDS;
 use refusal::Refusal;
 
-// The bits of the header, and the bytes without which a file has none.
-const HEADER_BITS: usize = 24;
+// The bytes of a header of the short form, and of the long form.
+const SHORT_BYTES: usize = 3;
 
-const LEAST_HEADER: usize = 3;
+const LONG_BYTES: usize = 5;
+
+const LONG_BITS: usize = 8 * LONG_BYTES;
 
 // The least e with 2^e at least x: the binary digits that x - 1 has.
 fn log_up(x: usize) -> usize
@@ -27,6 +31,16 @@ fn log_up(x: usize) -> usize
     ensures { λ r. ⌜ r ≡ logUp x ⌝ }
 {
     64 - usize::leading_zeros(x - 1) as usize
+}
+
+// The bytes of the header of a set, whose form goes by its words.
+fn header_bytes(words: usize) -> usize
+    ensures { λ r. ⌜ r ≡ headerBytes words ⌝ }
+{
+    if words <= SHORT_WORDS {
+        return SHORT_BYTES;
+    }
+    LONG_BYTES
 }
 
 // The shape of a set of `words` words and width `width`. Only our own crates call it, with numbers that keep the limits.
@@ -39,6 +53,7 @@ pub fn shape_of(words: usize, width: usize) -> Shape
     let depth = log_up(width);
     let switches = network::bit_count(depth);
     let row = width * addressing;
+    let header = header_bytes(words);
     Shape {
         words,
         width,
@@ -46,7 +61,7 @@ pub fn shape_of(words: usize, width: usize) -> Shape
         addressing,
         lines: 1 << depth,
         switches,
-        start: HEADER_BITS,
+        start: 8 * header,
         stride: row + (switches + row),
     }
 }
@@ -106,31 +121,10 @@ fn open_whole(file: &[u8], shape: Shape) -> Opened
     Opened::Refused(Refusal::FileLong)
 }
 
-// The header's bits as one number: 13 for n, 7 for w and 4 that are 0.
-fn header_of(file: &[u8]) -> usize
-    ensures { λ r. ⌜ r ≡ field (now (file .entry)) 0 24 ⌝ }
+// Whether a file has the form of a set of these words and this width, where its header says so: 7 for the numbers, then the whole file.
+fn open_sized(file: &[u8], words: usize, width: usize) -> Opened
+    ensures { λ r. ⌜ r ≡ dimsTest words width (Refused Header) (lengthTest words width (now (file .entry))) ⌝ }
 {
-    let start = Cursor { at: 0, handed: 0 };
-    if file.len() < 8 {
-        let longer = bits::with_zeros(file);
-        return bits::next_field(&longer, start, HEADER_BITS).value as usize;
-    }
-    bits::next_field(file, start, HEADER_BITS).value as usize
-}
-
-// Whether a file has the form of a set, and its shape: the header, the length, the filling bits.
-pub fn open(file: &[u8]) -> Opened
-    ensures { λ r. ⌜ r ≡ openOf (now (file .entry)) ⌝ }
-{
-    if file.len() < LEAST_HEADER {
-        return Opened::Refused(Refusal::FileShort);
-    }
-    let header = header_of(file);
-    let words = header >> 11;
-    let width = (header >> 4) % 128;
-    if header % 16 != 0 {
-        return Opened::Refused(Refusal::Header);
-    }
     match test_limits(words, width) {
         Limits::Refused(_) => Opened::Refused(Refusal::Header),
         Limits::Kept => {
@@ -140,4 +134,50 @@ pub fn open(file: &[u8]) -> Opened
             Opened::Refused(Refusal::Header)
         }
     }
+}
+
+// The bits of a header of the long form as one number: 13 bits, 7 for w, 4 that tell the form, 16 for n. The first 24 are a header of the short
+// form, whose n stands in the 13 bits.
+fn header_of(file: &[u8]) -> usize
+    ensures { λ r. ⌜ r ≡ field (now (file .entry)) 0 40 ⌝ }
+{
+    let start = Cursor { at: 0, handed: 0 };
+    if file.len() < 8 {
+        let longer = bits::with_zeros(file);
+        return bits::next_field(&longer, start, LONG_BITS).value as usize;
+    }
+    bits::next_field(file, start, LONG_BITS).value as usize
+}
+
+// Whether a file has the form of a set, and its shape: the header, the length, the filling bits.
+pub fn open(file: &[u8]) -> Opened
+    ensures { λ r. ⌜ r ≡ openOf (now (file .entry)) ⌝ }
+{
+    if file.len() < SHORT_BYTES {
+        return Opened::Refused(Refusal::FileShort);
+    }
+    let header = header_of(file);
+    let first = header >> 27;
+    let width = (header >> 20) % 128;
+    let mark = (header >> 16) % 16;
+    if mark == 0 {
+        if SHORT_WORDS < first {
+            return Opened::Refused(Refusal::Header);
+        }
+        return open_sized(file, first, width);
+    }
+    if first != 0 {
+        return Opened::Refused(Refusal::Header);
+    }
+    if mark != 1 {
+        return Opened::Refused(Refusal::Header);
+    }
+    if file.len() < LONG_BYTES {
+        return Opened::Refused(Refusal::FileShort);
+    }
+    let words = header % 65536;
+    if SHORT_WORDS < words {
+        return open_sized(file, words, width);
+    }
+    Opened::Refused(Refusal::Header)
 }

@@ -39,7 +39,8 @@ decimal-length (suc k) x l =
     rw (decimal-step x) (ifLt-cases (λ (xs : List ℕ). length xs ≤ suc (suc k)) x 10 _ _ (λ h. omega arith)
     (λ h. omega (arith, length-append (decimal (x / 10)) (figure x ∷ []), decimal-length k (x / 10) (omega (arith, l, pow-suc 10 (suc k))))))
 
--- examples: 0, 10 and 4,096
+-- examples: 0, 10, 4,096 and 16,384
 pub decimal-examples : (decimal 0 ≡ 48 ∷ []) × (decimal 10 ≡ 49 ∷ 48 ∷ []) × (decimal 4096 ≡ 52 ∷ 48 ∷ 57 ∷ 54 ∷ [])
+    × (decimal 16384 ≡ 49 ∷ 54 ∷ 51 ∷ 56 ∷ 52 ∷ [])
 unfolding decimal figures ifLt
-decimal-examples = (refl, refl, refl)
+decimal-examples = (refl, refl, refl, refl)

@@ -34,7 +34,7 @@ put-separated c = c .before .before .before
 abbrev word : tie.In-loop Inv-loop μ-loop → ℕ
 word c = getD (start (c .before) .args .words .now) (c .before .loop .j) 0
 
-word-short : (c : tie.In-loop Inv-loop μ-loop) → word c < 10000
+word-short : (c : tie.In-loop Inv-loop μ-loop) → word c < 100000
 word-short c = let s = start (c .before) in omega (arith, s .pre .1 (c .before .loop .j) (c .loop-test .taken), s .pre .0)
 
 room : (c : tie.In-loop Inv-loop μ-loop) → c .before .loop .next + length (decimal (word c)) + 1 ≤ length (c .before .loop .text)

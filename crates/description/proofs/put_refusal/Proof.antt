@@ -23,10 +23,10 @@ number-line c = c .before .before .before .before .before
 room-refused : (c : tie.After-put-text) → Room 8 (c .put-text .result) (c .put-text .last .0)
 room-refused c = room-more 0 8 (omega arith, start c .pre .1) (omega arith) (c .put-text .ensures)
 
-room-number : (c : tie.After-put-number) → Room 12 (c .put-number .result) (c .put-number .last .0)
+room-number : (c : tie.After-put-number) → Room 13 (c .put-number .result) (c .put-number .last .0)
 room-number c =
     let s = start (refused-number c) in
-    room-more 8 4 (room-refused (refused-number c)) (decimal-short (s .args .number) (omega (arith, s .pre .0))) (c .put-number .ensures)
+    room-more 8 5 (room-refused (refused-number c)) (decimal-short (s .args .number) (omega (arith, s .pre .0))) (c .put-number .ensures)
 
 -- ---- the needs
 

@@ -38,21 +38,21 @@ start-line c = start-width (width-number (number-line c))
 room-words : (c : tie.After-put-text) → Room 6 (c .put-text .result) (c .put-text .last .0)
 room-words c = room-more 0 6 (omega arith, start c .pre .0 .4) (omega arith) (c .put-text .ensures)
 
-room-count : (c : tie.After-put-number) → Room 10 (c .put-number .result) (c .put-number .last .0)
+room-count : (c : tie.After-put-number) → Room 11 (c .put-number .result) (c .put-number .last .0)
 room-count c =
     let s = start (words-count c) in
-    room-more 6 4 (room-words (words-count c)) (decimal-short (s .args .n) (omega (arith, s .pre .0))) (c .put-number .ensures)
+    room-more 6 5 (room-words (words-count c)) (decimal-short (s .args .n) (omega (arith, s .pre .0))) (c .put-number .ensures)
 
-room-width : (c : tie.After-put-text2) → Room 17 (c .put-text2 .result) (c .put-text2 .last .0)
-room-width c = room-more 10 7 (room-count (count-width c)) (omega arith) (c .put-text2 .ensures)
+room-width : (c : tie.After-put-text2) → Room 18 (c .put-text2 .result) (c .put-text2 .last .0)
+room-width c = room-more 11 7 (room-count (count-width c)) (omega arith) (c .put-text2 .ensures)
 
-room-number : (c : tie.After-put-number2) → Room 21 (c .put-number2 .result) (c .put-number2 .last .0)
+room-number : (c : tie.After-put-number2) → Room 23 (c .put-number2 .result) (c .put-number2 .last .0)
 room-number c =
     let s = start-width (width-number c) in
-    room-more 17 4 (room-width (width-number c)) (decimal-short (s .args .w) (omega (arith, s .pre .0))) (c .put-number2 .ensures)
+    room-more 18 5 (room-width (width-number c)) (decimal-short (s .args .w) (omega (arith, s .pre .0))) (c .put-number2 .ensures)
 
-room-line : (c : tie.After-put-text3) → Room 22 (c .put-text3 .result) (c .put-text3 .last .0)
-room-line c = room-more 21 1 (room-number (number-line c)) (omega arith) (c .put-text3 .ensures)
+room-line : (c : tie.After-put-text3) → Room 24 (c .put-text3 .result) (c .put-text3 .last .0)
+room-line c = room-more 23 1 (room-number (number-line c)) (omega arith) (c .put-text3 .ensures)
 
 -- ---- the needs
 

@@ -31,10 +31,15 @@ unfoldable pub faulty : List ℕ → List ℕ → ℕ → ℕ → Bool
 faulty addresses marks w c =
     any w (λ b. choose (leb c (getD addresses b 0)) true (not (eqb (getD marks (getD addresses b 0 * w + b) 0) noWord)))
 
+-- an array with room for a frame of n words, and no marks there
+pub record Unmarked (n : ℕ) (marks : List ℕ) : Type 0 where
+  pub long : n ≤ length marks
+  pub none : (i : ℕ) → i < n → getD marks i 0 ≡ noWord
+
 -- after the lines below t, all of which passed
 pub record Gather (n w : ℕ) (file : List ℕ) (t : ℕ) (places words : List ℕ) : Type 0 where
-  pub long : length places ≡ mostWords
-  pub long′ : length words ≡ mostWords
+  pub long : n ≤ length places
+  pub long′ : n ≤ length words
   pub passed : (s : ℕ) → s < t → (any w (readFault n w file s) ≡ false) × (carryStrays n w file s ≡ false) × (any w (writeFault n w file s) ≡ false)
   pub placed : (s b : ℕ) → s < t → b < w → getD places (source n w file s b) 0 ≡ target n w file s b
   pub worded : (s b : ℕ) → s < t → b < w → getD words (target n w file s b) 0 ≡ source n w file s b
@@ -71,9 +76,9 @@ pub record Markable (reads sources writes places words : List ℕ) (w : ℕ) : T
   pub reads-long : length reads ≡ mostWidth
   pub sources-long : length sources ≡ mostWidth
   pub writes-long : length writes ≡ mostWidth
-  pub places-long : length places ≡ mostWords
-  pub words-long : length words ≡ mostWords
   pub banks : (k : ℕ) → k < w → getD sources k 0 < w
+  pub words-inside : (k : ℕ) → k < w → wordAt reads sources w k < length places
+  pub places-inside : (k : ℕ) → k < w → placeAt writes w k < length words
   pub words-below : (k : ℕ) → k < w → wordAt reads sources w k < mostWords
   pub places-below : (k : ℕ) → k < w → placeAt writes w k < mostWords
   pub apart : (j k : ℕ) → j < w → k < w → wordAt reads sources w j ≡ wordAt reads sources w k → j ≡ k

@@ -2,7 +2,6 @@
 use Prim.Native.Nat.{ℕ, _≤_}
 use mathlib.Core.Path.{_≡_, refl, sym, ap, ap₂, _∙_}
 use mathlib.Core.List.{List, _++_}
-use native.Mathlib.Omega.{arith}
 use borrow.Author.Needs.{needs}
 use lib.ListN.{length, getD, take, drop}
 use lib.Seq.{length-take-le}
@@ -10,6 +9,7 @@ use Rattle.laws.specs.Tabulate.{tabulate, overwrite}
 use Rattle.laws.proofs.Choices.{ifLt-yes, ifLt-no}
 use Rattle.laws.proofs.Tabulates.{tabulate-getD}
 use Rattle.images.specs.Images.{checkOf, orderOf}
+use Rattle.images.proofs.Checks.{unseen-zeros}
 use Rattle.images.proofs.Exact.{check-permutes}
 use Rattle.images.specs.declared.Checked.{Checked}
 use Rattle.images.specs.declared.Checked.the-variants.{Permutation}
@@ -31,11 +31,19 @@ from-depth c = c .before .before .before
 abbrev from-count : tie.After-bit-count → tie.Start
 from-count c = from-depth (c .before .before)
 
+-- all lengths are tested
+abbrev tested : tie.After-check → tie.Else3
+tested c = c .before .before
+
 abbrev from-check : tie.After-check → tie.Start
-from-check c = from-count (c .before .before .before)
+from-check c = from-count (tested c .before .before)
+
+-- the images are checked
+abbrev passed : tie.After-set-images-arg → tie.After-check
+passed c = c .before .before .before .before
 
 abbrev from-lent : tie.After-set-images-arg → tie.Start
-from-lent c = from-check (c .before .before .before)
+from-lent c = from-check (passed c)
 
 -- ---- what the call knows: the depth, the number of bits, that values and images reach, and what the check of the images tells
 
@@ -56,17 +64,17 @@ checked c = c .check .ensures
 
 -- the number of bits, once all lengths are tested
 abbrev count : tie.After-check → ℕ
-count c = c .before .before .before .bit-count .result
+count c = tested c .before .before .bit-count .result
 
 count-checked : (c : tie.After-check) → count c ≡ bitCount (depthOf (from-check c .args .width))
-count-checked c = count-known (c .before .before .before)
+count-checked c = count-known (tested c .before .before)
 
 deep-checked : (c : tie.After-check) → depthOf (from-check c .args .width) ≤ 6
-deep-checked c = deep (c .before .before .before .before)
+deep-checked c = deep (tested c .before .before .before)
 
 -- the values that are lent to `set_images` are as many as the network has bits
 lent-long : (c : tie.After-check) → length (take (count c) (from-check c .args .values .now)) ≡ count c
-lent-long c = length-take-le _ _ (rw (count-checked c) (room (c .before)))
+lent-long c = length-take-le _ _ (rw (count-checked c) (room (tested c)))
 
 sized : (c : tie.After-check)
     → Sized (from-check c .args .width) (length (take (count c) (from-check c .args .values .now))) (depthOf (from-check c .args .width))
@@ -79,7 +87,7 @@ told : (c : tie.After-check) {o : SetOutcome}
     → o ≡ settingOf (a .width) (a .images .now) (a .values .now)
 unfolding settingOf
 told c e =
-    ifLt-no 6 _ _ _ _ (deep-checked c) (ifLt-no _ _ _ _ _ (c .before .before .if2 .left) (ifLt-no _ _ _ _ _ (room (c .before)) e))
+    ifLt-no 6 _ _ _ _ (deep-checked c) (ifLt-no _ _ _ _ _ (tested c .before .if2 .left) (ifLt-no _ _ _ _ _ (room (tested c)) e))
 
 -- ---- the needs
 
@@ -103,8 +111,11 @@ returns-3 c =
     ifLt-no 6 _ _ _ _ (deep (c .before .before .before)) (ifLt-no _ _ _ _ _ (c .before .if2 .left)
     (ifLt-yes _ _ _ _ _ (rw (count-known (c .before .before)) at (c .if3 .taken)) refl))
 
+slice-aggregate-check : tie.Need-slice-aggregate-check
+slice-aggregate-check c = search needs
+
 check-requires : tie.Need-check-requires
-check-requires c κs = (omega (arith, depth-narrow _ (deep (c .before .before .before))), c .before .if2 .left)
+check-requires c κs = (c .before .before .if2 .left, unseen-zeros _ _ refl (depth-narrow _ (deep (c .before .before .before .before))))
 
 enum-known-refusal : tie.Need-enum-known-refusal
 enum-known-refusal c = search needs
@@ -116,19 +127,19 @@ slice-relend-prefix-set-images : tie.Need-slice-relend-prefix-set-images
 slice-relend-prefix-set-images c = search needs
 
 slice-aggregate-set-images : tie.Need-slice-aggregate-set-images
-slice-aggregate-set-images c = sym (lent-long (c .before .before .before))
+slice-aggregate-set-images c = sym (lent-long (passed c))
 
 set-images-requires : tie.Need-set-images-requires
 set-images-requires c κs =
-    let k = c .before .before .before in
+    let k = passed c in
     let a = from-lent c .args in
     let fine : checkOf (a .images .now) (a .width) ≡ Permutation = sym (checked k) ∙ c .before .enum-told .given .1 in
-    ((depthOf (a .width), sized k), ((depth-narrow _ (deep-checked k), k .before .before .if2 .left), check-permutes (a .images .now) (a .width) fine))
+    ((depthOf (a .width), sized k), ((depth-narrow _ (deep-checked k), tested k .before .if2 .left), check-permutes (a .images .now) (a .width) fine))
 
 returns-4 : tie.Need-returns-4
 unfolding written
 returns-4 c =
-    let k = c .before .before .before in
+    let k = c .before .before .before .before in
     let a = from-check k .args in
     told k (ap (λ (z : Checked). written z (a .width) (a .images .now) (a .values .now)) (sym (c .before .refusal .given .1) ∙ checked k))
 
@@ -145,14 +156,14 @@ values-known c =
     let d : ℕ = depthOf (a .width) in
     let p : ℕ → ℕ = orderOf (a .width) (a .images .now) in
     let s : List ℕ = setting d p in
-    c .set-images .ensures d (sized (c .before .before .before .before))
+    c .set-images .ensures d (sized (passed (c .before)))
     ∙ tabulate-getD s 0 ∙ ap (λ (k : ℕ). tabulate k (λ i. getD s i 0)) (length-setting d p)
 
 returns-5 : tie.Need-returns-5
 unfolding written settledOf overwrite
 returns-5 c =
     let lent = c .before .before .before in
-    let k = lent .before .before .before in
+    let k = passed lent in
     let a = from-lent lent .args in
     let fine : Permutation ≡ checkOf (a .images .now) (a .width) = sym (lent .before .enum-told .given .1) ∙ checked k in
     told k (
@@ -169,6 +180,7 @@ set-spec =
     bit-count-requires
     returns-2
     returns-3
+    slice-aggregate-check
     check-requires
     enum-known-refusal
     enum-told

@@ -53,16 +53,26 @@ returns-3 c =
     measured (c .before .before)
     (ifLt-no _ _ _ _ _ (c .before .if2 .left) (ifLt-yes _ _ _ _ _ (omega (arith, c .if3 .taken)) refl))
 
-check-requires : tie.Need-check-requires
-check-requires c κs = search needs
+check-within-requires : tie.Need-check-within-requires
+check-within-requires c κs = search needs
 
 returns-4 : tie.Need-returns-4
 unfolding scratchNeed
 returns-4 c =
-    measured (c .before .before .before)
-    (ifLt-no _ _ _ _ _ (c .before .before .if2 .left) (ifLt-no _ _ _ _ _ (omega (arith, c .before .if3 .left)) (c .check .ensures)))
+    let d = c .before in
+    measured (d .before .before)
+    (ifLt-no _ _ _ _ _ (d .before .if2 .left) (ifLt-no _ _ _ _ _ (omega (arith, d .if3 .left)) (c .check-within .ensures)))
 
 pub check-lent-spec : {M : Type 1} → statement M
 check-lent-spec =
     tie.close
-    (tie.spec returns shape-of-requires file-length-requires returns-2 mul-if3 add-if3 returns-3 check-requires returns-4)
+    (tie.spec
+    returns
+    shape-of-requires
+    file-length-requires
+    returns-2
+    mul-if3
+    add-if3
+    returns-3
+    check-within-requires
+    returns-4)

@@ -27,6 +27,7 @@ Inv-loop file shape places₀ words₀ cycles setting₀ reads₀ standing₀ wr
     (Gathering (shape .words) (shape .width) file t places words × (cursor ≡ behindLines (shape .words) (shape .width) t)
     × (crossed ≡ sum t (lineCrossings (shape .words) (shape .width) file)))
     × (length setting ≡ mostSwitches) × (length reads ≡ mostWidth) × (length standing ≡ mostWidth) × (length writes ≡ mostWidth)
+    × (length places ≡ length places₀) × (length words ≡ length words₀)
 
 abbrev μ-loop : tie.MeasureT-loop
 μ-loop file shape places₀ words₀ cycles setting₀ reads₀ standing₀ writes₀ cursor₀ crossed₀ t₀ places words setting reads standing writes cursor crossed t =
@@ -119,7 +120,7 @@ loop-holds c =
     let wide = length-replicate {A = ℕ} mostWidth 0 in
     let s = c .before .before .before .before in
     let first = c .cursor-at .ensures ∙ behind-none (s .args .shape .words) (s .args .shape .width) in
-    ((gathering-none (s .pre .1), first, refl), length-replicate {A = ℕ} mostSwitches 0, wide, wide, wide)
+    ((gathering-none (s .pre .1), first, refl), length-replicate {A = ℕ} mostSwitches 0, wide, wide, wide, refl, refl)
 
 slice-aggregate-line-at : tie.Need-slice-aggregate-line-at Inv-loop μ-loop
 slice-aggregate-line-at c = sym (c .before .before .loop .inv .1)
@@ -164,13 +165,13 @@ same-length : tie.Need-same-length Inv-loop μ-loop
 same-length c =
     let d = line-refused c in
     let a = test d .before in
-    d .gather-line .kept .1 .1 .1 .1 .1 .0 ∙ a .loop .inv .0 .0 .gathered .long ∙ sym (start a .pre .1 .long)
+    d .gather-line .kept .1 .1 .1 .1 .1 .0 ∙ a .loop .inv .5
 
 same-length-2 : tie.Need-same-length-2 Inv-loop μ-loop
 same-length-2 c =
     let d = line-refused c in
     let a = test d .before in
-    d .gather-line .kept .1 .1 .1 .1 .1 .1 .0 ∙ a .loop .inv .0 .0 .gathered .long′ ∙ sym (start a .pre .1 .long′)
+    d .gather-line .kept .1 .1 .1 .1 .1 .1 .0 ∙ a .loop .inv .6
 
 returns : tie.Need-returns Inv-loop μ-loop
 returns c =
@@ -205,19 +206,22 @@ loop-again c =
     let w = s .args .shape .width in
     let held = a .loop .inv in
     let kept = r .line-at .kept .1 .1 .1 in
+    let marks = d .gather-line .kept .1 .1 .1 .1 .1 in
     let further = r .line-at .ensures .moved ∙ ap (λ (x : Cursor). onward x (lineBits n w)) (held .0 .1) ∙ behind-more n w (a .loop .t) in (
       (gathering-more (held .0 .0) (line-left (test d)) (gathers d _ (c .before .before .enum-told .given .1)), further, counted c),
       kept .0 ∙ held .1,
       kept .1 .0 ∙ held .2,
       kept .1 .1 .0 ∙ held .3,
       kept .1 .1 .1 .0 ∙ held .4,
+      marks .0 ∙ held .5,
+      marks .1 .0 ∙ held .6,
     )
 
 same-length-3 : tie.Need-same-length-3 Inv-loop μ-loop
-same-length-3 c = c .before .loop .inv .0 .0 .gathered .long ∙ sym (start (c .before) .pre .1 .long)
+same-length-3 c = c .before .loop .inv .5
 
 same-length-4 : tie.Need-same-length-4 Inv-loop μ-loop
-same-length-4 c = c .before .loop .inv .0 .0 .gathered .long′ ∙ sym (start (c .before) .pre .1 .long′)
+same-length-4 c = c .before .loop .inv .6
 
 returns-2 : tie.Need-returns-2 Inv-loop μ-loop
 returns-2 c =

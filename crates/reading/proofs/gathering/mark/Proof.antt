@@ -85,7 +85,7 @@ slice-write-places : tie.Need-slice-write-places Inv-loop μ-loop
 slice-write-places c =
     let s = c .before .before .before .before .before in
     let k = c .before .before .before .before .loop .k in
-    omega (arith, s .pre .words-below k (omega arith), s .pre .places-long, c .before .before .before .before .loop .inv .1 .long)
+    omega (arith, s .pre .words-inside k (omega arith), c .before .before .before .before .loop .inv .1 .long)
 
 cast-words : tie.Need-cast-words Inv-loop μ-loop
 cast-words c =
@@ -103,7 +103,7 @@ slice-write-words : tie.Need-slice-write-words Inv-loop μ-loop
 slice-write-words c =
     let s = c .before .before .before .before .before in
     let k = c .before .before .before .before .loop .k in
-    omega (arith, s .pre .places-below k (omega arith), s .pre .words-long, c .before .before .before .before .loop .inv .1 .long′)
+    omega (arith, s .pre .places-inside k (omega arith), c .before .before .before .before .loop .inv .1 .long′)
 
 add-k : tie.Need-add-k Inv-loop μ-loop
 add-k c = search needs

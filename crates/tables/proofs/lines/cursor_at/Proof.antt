@@ -12,7 +12,7 @@ stands : (s : tie.Start) → s .args .shape .start + s .args .t * s .args .shape
 unfolding lineAt
 stands s = rw (s .pre .0 .start, s .pre .0 .stride)
 
-few : (s : tie.Start) → s .args .shape .start + s .args .t * s .args .shape .stride ≤ 2 ^ 24
+few : (s : tie.Start) → s .args .shape .start + s .args .t * s .args .shape .stride ≤ 2 ^ 26
 few s = rw (stands s) (lineAt-few (s .pre .0 .dims) (s .args .t) (omega (arith, s .pre .1)))
 
 mul-t3 : tie.Need-mul-t3

@@ -19,7 +19,7 @@ next-field-requires : tie.Need-next-field-requires
 next-field-requires c κs = search needs
 
 returns : tie.Need-returns
-returns c = value-of (c .next-field .ensures) ∙ field-zeros (c .before .before .with-zeros .ensures) 0 24
+returns c = value-of (c .next-field .ensures) ∙ field-zeros (c .before .before .with-zeros .ensures) 0 40
 
 next-field-requires-2 : tie.Need-next-field-requires-2
 next-field-requires-2 c κs = search needs

@@ -10,6 +10,7 @@ use Rattle.tables.specs.Terms.{cycles, fileLength}
 use Rattle.tables.specs.Format.{lineAt, filling, lengthTest}
 use Rattle.tables.specs.declared.Opened.the-variants.{Set}
 use Rattle.tables.proofs.Dims.{lineAt-few, fileLength-reaches, fileLength-tight, fileLength-header}
+use Rattle.tables.proofs.Header.{bytes-few}
 use Rattle.tables.proofs.Longest.{lines-longest, fileLength-longest}
 use Rattle.tables.proofs.Opens.{shape-same, shape-total, shape-end}
 use Rattle.tables.proofs.opening.open_whole.Statement.{statement}
@@ -86,7 +87,7 @@ sub-last-bits c = omega (arith, end-known c, length-known c, fileLength-reaches 
 
 last-bits-requires : tie.Need-last-bits-requires
 last-bits-requires c κs = (
-  omega (arith, whole-known c, fileLength-header (words (start c)) (width (start c))),
+  omega (arith, whole-known c, fileLength-header (words (start c)) (width (start c)), bytes-few (words (start c))),
   omega (arith, end-known c, length-known c, fileLength-tight (words (start c)) (width (start c))),
 )
 
