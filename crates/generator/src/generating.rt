@@ -51,17 +51,14 @@ fn check_long(images: &[u16], n: usize) -> Checked
     images::check(images, n, &mut seen)
 }
 
-// The checks of n images by the smaller array that has room for them, of `size` marks or more. It calls itself for the next size, so that no
-// compiler joins its callers' stack with that of both sizes: a short frame does not pay for the marks of long ones.
-fn check_within(images: &[u16], n: usize, size: usize) -> Checked
-    requires { ⌜ (n ≤ mostWords) × (n ≤ length (now images)) × (0 < size) × (size ≤ mostWords) ⌝ }
+// The checks of n images of a long frame, by an array with room for them: first it is asked for `room` marks. It calls itself for more, because a
+// compiler does not join the stack of such a function with that of its caller: so a short frame does not pay for the marks of long ones.
+fn check_roomy(images: &[u16], n: usize, room: usize) -> Checked
+    requires { ⌜ (n ≤ mostWords) × (n ≤ length (now images)) × (room ≤ mostWords) ⌝ }
     ensures { λ r. ⌜ r ≡ checkOf (now (images .entry)) n ⌝ }
 {
-    if size < n {
-        return check_within(images, n, MOST_WORDS);
-    }
-    if size <= SHORT_WORDS {
-        return check_short(images, n);
+    if room < n {
+        return check_roomy(images, n, MOST_WORDS);
     }
     check_long(images, n)
 }
@@ -88,7 +85,10 @@ fn check_lent(
     if scratch < 2 * words + 256 {
         return Checked::Refused(Refusal::BufferShort);
     }
-    check_within(images, n, SHORT_WORDS)
+    if n <= SHORT_WORDS {
+        return check_short(images, n);
+    }
+    check_roomy(images, n, SHORT_WORDS)
 }
 
 // All tests before the first lent word is written.

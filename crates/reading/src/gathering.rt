@@ -188,7 +188,8 @@ fn read_by(
     requires { ⌜ Unmarked (shape .words) (now places) × Unmarked (shape .words) (now words) ⌝ }
     ensures { λ r. ⌜ readOutcome r (now (images .exit)) ≡ readScan (shape .words) (shape .width) (now (file .entry)) (now (images .entry)) ⌝ }
 {
-    match gather(file, shape, places, words) {
+    // As a part, the file's place and length are numbers of this call and not fields that each line loads anew.
+    match gather(&file[..file.len()], shape, places, words) {
         Gathered::Refused(refusal) => Reading::Refused(refusal),
         Gathered::All(pass) => {
             write_images(places, images, shape.words);
@@ -218,17 +219,14 @@ fn read_long(file: &[u8], shape: Shape, images: &mut [u16]) -> Reading
     read_by(file, shape, &mut place_of, &mut word_of, images)
 }
 
-// Reads the lines of a set by the smaller arrays that have room for its frame, of `size` words or more. It calls itself for the next size, so
-// that no compiler joins its callers' stack with that of both sizes: a short set does not pay for the arrays of long ones.
-fn read_within(file: &[u8], shape: Shape, images: &mut [u16], size: usize) -> Reading
-    requires { ⌜ Shaped shape × (shape .words ≤ length (now images)) × (0 < size) × (size ≤ mostWords) ⌝ }
+// Reads the lines of a long set, by arrays with room for them: first it is asked for `room` words. It calls itself for more, because a compiler
+// does not join the stack of such a function with that of its caller: so a short set does not pay for the arrays of long ones.
+fn read_roomy(file: &[u8], shape: Shape, images: &mut [u16], room: usize) -> Reading
+    requires { ⌜ Shaped shape × (shape .words ≤ length (now images)) × (room ≤ mostWords) ⌝ }
     ensures { λ r. ⌜ readOutcome r (now (images .exit)) ≡ readScan (shape .words) (shape .width) (now (file .entry)) (now (images .entry)) ⌝ }
 {
-    if size < shape.words {
-        return read_within(file, shape, images, MOST_WORDS);
-    }
-    if size <= SHORT_WORDS {
-        return read_short(file, shape, images);
+    if room < shape.words {
+        return read_roomy(file, shape, images, MOST_WORDS);
     }
     read_long(file, shape, images)
 }
@@ -246,7 +244,10 @@ fn read_set(file: &[u8], shape: Shape, images: &mut [u16], scratch: &[u16]) -> R
     if scratch.len() < 2 * words {
         return Reading::Refused(Refusal::BufferShort);
     }
-    read_within(file, shape, images, SHORT_WORDS)
+    if words <= SHORT_WORDS {
+        return read_short(file, shape, images);
+    }
+    read_roomy(file, shape, images, SHORT_WORDS)
 }
 
 // Reads a set: what it contains, and the permutation that it performs in the first n images. Scratch is lent and not written.

@@ -5,20 +5,21 @@ use mathlib.Core.Path.{_≡_, refl, sym, ap, _∙_}
 use mathlib.Core.List.{List}
 use native.Mathlib.Omega.{arith}
 use native.Mathlib.Nat.{pow-suc, pow-le-pow-right}
-use native.Mathlib.Decide.{decLe}
+use native.Mathlib.Decide.{decLe, ℕ-discrete}
 use lib.Count.{leadingZeros, leading-length}
 use lib.ListN.{length}
 use Rattle.limits.specs.Limits.{shortWords, mostSwitches}
-use Rattle.laws.specs.Choice.{ifLt, ifEq}
-use Rattle.laws.proofs.Choices.{ifLt-yes, ifLt-no, ifLt-cases, ifEq-yes, ifEq-no}
+use Rattle.laws.specs.Choice.{ifLt, ifLe, ifEq}
+use Rattle.laws.proofs.Choices.{ifLt-yes, ifLt-no, ifLt-cases, ifLe-yes, ifLe-no, ifEq-yes, ifEq-no}
 use Rattle.refusal.specs.declared.Refusal.{Refusal}
 use Rattle.refusal.specs.declared.Refusal.the-variants.{FileShort, Header}
 use Rattle.bits.proofs.Digits.{one-shl}
 use Rattle.network.specs.Network.{bitCount}
 use Rattle.bits.specs.Bits.{field}
-use Rattle.tables.specs.Header.{shortBytes, longBytes, headerBytes, headerBits, headerFirst, headerWidth, headerMark, neededBytes}
-use Rattle.tables.specs.Terms.{Dims, dimsTest, limitsOf, logUp, cycles, addressBits, depth, switchBits, addressRow, lineBits, fileLength}
+use Rattle.tables.specs.Header.{shortBytes, longBytes, headerBytes, headerBits, headerFirst, headerWidth, headerMark, byForm, neededBytes}
+use Rattle.tables.specs.Terms.{Dims, limitTest, dimsTest, limitsOf, logUp, cycles, addressBits, depth, switchBits, addressRow, lineBits, fileLength}
 use Rattle.tables.specs.Format.{lineAt, shapeOf, Shaped, headerTest, lengthTest, openOf}
+use Rattle.tables.specs.inner.Opening.{neededOf, wordsOf}
 use Rattle.tables.specs.declared.Shape.{Shape}
 use Rattle.tables.specs.declared.Opened.{Opened}
 use Rattle.tables.specs.declared.Opened.the-variants.{Refused}
@@ -159,30 +160,65 @@ module _ {x w z : ℕ} (file : List ℕ) (first : x ≡ headerFirst file) (width
       set : headerMark file ≡ 1
       set = sym mark ∙ one
 
-  -- refused by 7: one of the four bits is set and the form is not long
-  pub opened-marked : (z ≡ 0 → ⊥) → (x ≡ 0 → z ≡ 1 → ⊥) → openOf file ≡ Refused Header
-  opened-marked set other =
+  -- a file with fewer bytes than its header needs
+  needed-is : neededBytes file ≡ neededOf x z
+  unfolding neededBytes byForm neededOf
+  needed-is = rw (first, mark) refl
+
+  pub opened-cut : length file < neededOf x z → openOf file ≡ Refused FileShort
+  unfolding openOf
+  opened-cut short =
+      sym (ifLt-no (length file) shortBytes _ _ _ some (ifLt-yes (length file) (neededBytes file) _ _ _ (omega (arith, needed-is)) refl))
+
+  -- the tests of m words, which 0 does not pass
+  abbrev tested : ℕ → Opened
+  tested m = dimsTest m w (Refused Header) (lengthTest m w file)
+
+  tested-none : tested 0 ≡ Refused Header
+  unfolding dimsTest limitTest
+  tested-none = sym (ifLt-yes 0 1 _ _ _ (omega arith) refl)
+
+  -- one of the four bits is set, and the form is not long
+  marked : (z ≡ 0 → ⊥) → (x ≡ 0 → z ≡ 1 → ⊥) → openOf file ≡ Refused Header
+  marked set other =
       opened-short other
       ∙ ifLt-cases (λ (o : Opened). o ≡ Refused Header) shortWords x _ _ (λ _. refl) (λ _. sym (ifEq-no z 0 _ _ _ set refl))
 
-  -- or the short form says more words than it has room for
-  pub opened-above : z ≡ 0 → shortWords < x → openOf file ≡ Refused Header
-  opened-above clear many = opened-short (λ _ one. omega arith) ∙ sym (ifLt-yes shortWords x _ _ _ many refl)
+  -- else the tests are those of the n that the header says
+  pub opened-said : {y : ℕ} → y ≡ field file 24 16 → neededOf x z ≤ length file → openOf file ≡ tested (wordsOf x z y)
+  unfolding wordsOf neededOf
+  opened-said {y} behind enough = elim (ℕ-discrete z 0) [
+    | yes clear ↦ opened-short (λ _ one. omega arith) ∙ (elim (decLe x shortWords) [
+      | yes few ↦
+          sym (ifLt-no shortWords x _ _ _ few (ifEq-yes z 0 _ _ _ clear refl))
+          ∙ ap tested (ifEq-yes z 0 _ _ _ clear (ifLe-yes x shortWords _ _ _ few refl))
+      | no many ↦
+          sym (ifLt-yes shortWords x _ _ _ (omega arith) refl)
+          ∙ sym (ap tested (sym (ifEq-yes z 0 _ _ _ clear (ifLe-no x shortWords _ _ _ (omega arith) refl))) ∙ tested-none)
+    ])
+    | no set ↦ elim (ℕ-discrete x 0) [
+      | no fore ↦ marked set (λ none _. fore none) ∙ neither set (sym (ifEq-no x 0 _ _ _ fore refl))
+      | yes none ↦ elim (ℕ-discrete z 1) [
+        | no other ↦ marked set (λ _ one. other one) ∙ neither set (sym (ifEq-yes x 0 _ _ _ none (ifEq-no z 1 _ _ _ other refl)))
+        | yes one ↦ long none one
+      ]
+    ]
+  ]
+    where
+      -- the header fits neither form
+      neither : (z ≡ 0 → ⊥) → neededOf x z ≡ shortBytes → Refused Header ≡ tested (wordsOf x z y)
+      neither set short = sym (ap tested (sym (ifEq-no z 0 _ _ _ set (ifEq-yes (neededOf x z) shortBytes _ _ _ short refl))) ∙ tested-none)
 
-  pub opened-clear : z ≡ 0 → x ≤ shortWords → openOf file ≡ dimsTest x w (Refused Header) (lengthTest x w file)
-  opened-clear clear few =
-      opened-short (λ _ one. omega arith) ∙ sym (ifLt-no shortWords x _ _ _ few (ifEq-yes z 0 _ _ _ clear refl))
-
-  module _ {n : ℕ} (none : x ≡ 0) (one : z ≡ 1) (behind : n ≡ field file 24 16) where
-    pub opened-cut : length file < longBytes → openOf file ≡ Refused FileShort
-    opened-cut short = opened-long none one behind ∙ sym (ifLt-yes (length file) longBytes _ _ _ short refl)
-
-    pub opened-below : longBytes ≤ length file → n ≤ shortWords → openOf file ≡ Refused Header
-    opened-below long few =
-        opened-long none one behind
-        ∙ sym (ifLt-no (length file) longBytes _ _ _ long (ifLt-no shortWords n _ _ _ few refl))
-
-    pub opened-behind : longBytes ≤ length file → shortWords < n → openOf file ≡ dimsTest n w (Refused Header) (lengthTest n w file)
-    opened-behind long many =
-        opened-long none one behind
-        ∙ sym (ifLt-no (length file) longBytes _ _ _ long (ifLt-yes shortWords n _ _ _ many refl))
+      -- it has the long form
+      long : x ≡ 0 → z ≡ 1 → openOf file ≡ tested (wordsOf x z y)
+      long none one =
+          let five : neededOf x z ≡ longBytes = sym (ifEq-yes x 0 _ _ _ none (ifEq-yes z 1 _ _ _ one refl)) in
+          let said : ifLe y shortWords 0 y ≡ wordsOf x z y =
+          ifEq-no z 0 _ _ _ (λ clear. omega arith) (ifEq-no (neededOf x z) shortBytes _ _ _ (λ short. omega arith) refl) in
+          opened-long none one behind ∙ sym (ifLt-no (length file) longBytes _ _ _ (omega arith) refl)
+          ∙ (elim (decLe y shortWords) [
+            | yes few ↦
+                sym (ifLt-no shortWords y _ _ _ few refl) ∙ sym (ap tested (sym (ifLe-yes y shortWords _ _ _ few refl ∙ said)) ∙ tested-none)
+            | no many ↦
+                sym (ifLt-yes shortWords y _ _ _ (omega arith) refl) ∙ ap tested (ifLe-no y shortWords _ _ _ (omega arith) refl ∙ said)
+          ])

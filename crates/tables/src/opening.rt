@@ -4,11 +4,9 @@ ghost use Prim.Native.Nat.{_+_, _*_, _-_, _%_, _<_};
 ghost use lib.ListN.{length};
 ghost use Rattle.bits.specs.Bits.{field};
 ghost use Rattle.tables.specs.Header.{headerBytes};
-ghost use Rattle.tables.specs.Terms.{Dims, logUp, fileLength, limitsOf, dimsTest};
-ghost use Rattle.refusal.specs.declared.Refusal.the-variants.{Header};
+ghost use Rattle.tables.specs.Terms.{Dims, logUp, fileLength, limitsOf};
 ghost use Rattle.tables.specs.Format.{shapeOf, Shaped, lengthTest, openOf};
-ghost use Rattle.tables.specs.declared.Opened.{Opened};
-ghost use Rattle.tables.specs.declared.Opened.the-variants.{Refused};
+ghost use Rattle.tables.specs.inner.Opening.{neededOf, wordsOf};
 use crate::Limits;
 use crate::Opened;
 use crate::Shape;
@@ -121,21 +119,6 @@ fn open_whole(file: &[u8], shape: Shape) -> Opened
     Opened::Refused(Refusal::FileLong)
 }
 
-// Whether a file has the form of a set of these words and this width, where its header says so: 7 for the numbers, then the whole file.
-fn open_sized(file: &[u8], words: usize, width: usize) -> Opened
-    ensures { λ r. ⌜ r ≡ dimsTest words width (Refused Header) (lengthTest words width (now (file .entry))) ⌝ }
-{
-    match test_limits(words, width) {
-        Limits::Refused(_) => Opened::Refused(Refusal::Header),
-        Limits::Kept => {
-            if words % width == 0 {
-                return open_whole(file, shape_of(words, width));
-            }
-            Opened::Refused(Refusal::Header)
-        }
-    }
-}
-
 // The bits of a header of the long form as one number: 13 bits, 7 for w, 4 that tell the form, 16 for n. The first 24 are a header of the short
 // form, whose n stands in the 13 bits.
 fn header_of(file: &[u8]) -> usize
@@ -149,6 +132,38 @@ fn header_of(file: &[u8]) -> usize
     bits::next_field(file, start, LONG_BITS).value as usize
 }
 
+// The bytes of a header, by its first 13 bits and the four bits behind w.
+fn needed_bytes(first: usize, mark: usize) -> usize
+    ensures { λ r. ⌜ r ≡ neededOf first mark ⌝ }
+{
+    if first != 0 {
+        return SHORT_BYTES;
+    }
+    if mark != 1 {
+        return SHORT_BYTES;
+    }
+    LONG_BYTES
+}
+
+// n as a header says it, by the same and the 16 bits behind them; 0 where it fits neither form.
+fn words_of(first: usize, mark: usize, behind: usize) -> usize
+    ensures { λ r. ⌜ r ≡ wordsOf first mark behind ⌝ }
+{
+    if mark == 0 {
+        if first <= SHORT_WORDS {
+            return first;
+        }
+        return 0;
+    }
+    if needed_bytes(first, mark) == SHORT_BYTES {
+        return 0;
+    }
+    if behind <= SHORT_WORDS {
+        return 0;
+    }
+    behind
+}
+
 // Whether a file has the form of a set, and its shape: the header, the length, the filling bits.
 pub fn open(file: &[u8]) -> Opened
     ensures { λ r. ⌜ r ≡ openOf (now (file .entry)) ⌝ }
@@ -160,24 +175,17 @@ pub fn open(file: &[u8]) -> Opened
     let first = header >> 27;
     let width = (header >> 20) % 128;
     let mark = (header >> 16) % 16;
-    if mark == 0 {
-        if SHORT_WORDS < first {
-            return Opened::Refused(Refusal::Header);
-        }
-        return open_sized(file, first, width);
-    }
-    if first != 0 {
-        return Opened::Refused(Refusal::Header);
-    }
-    if mark != 1 {
-        return Opened::Refused(Refusal::Header);
-    }
-    if file.len() < LONG_BYTES {
+    if file.len() < needed_bytes(first, mark) {
         return Opened::Refused(Refusal::FileShort);
     }
-    let words = header % 65536;
-    if SHORT_WORDS < words {
-        return open_sized(file, words, width);
+    let words = words_of(first, mark, header % 65536);
+    match test_limits(words, width) {
+        Limits::Refused(_) => Opened::Refused(Refusal::Header),
+        Limits::Kept => {
+            if words % width == 0 {
+                return open_whole(file, shape_of(words, width));
+            }
+            Opened::Refused(Refusal::Header)
+        }
     }
-    Opened::Refused(Refusal::Header)
 }

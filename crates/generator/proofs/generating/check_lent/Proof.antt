@@ -53,15 +53,26 @@ returns-3 c =
     measured (c .before .before)
     (ifLt-no _ _ _ _ _ (c .before .if2 .left) (ifLt-yes _ _ _ _ _ (omega (arith, c .if3 .taken)) refl))
 
-check-within-requires : tie.Need-check-within-requires
-check-within-requires c κs = search needs
+-- what is left of the chain once all that is lent is tested
+tested : (c : tie.Else3) {r : Checked}
+    → let s = start (c .before .before .before) in
+    r ≡ checkOf (s .args .images .now) (s .args .n)
+    → r ≡ lentTest (s .args .n) (s .args .words) (s .args .w) (s .args .images .now) (s .args .room) (s .args .scratch)
+unfolding scratchNeed
+tested c e =
+    measured (c .before .before) (ifLt-no _ _ _ _ _ (c .before .if2 .left) (ifLt-no _ _ _ _ _ (omega (arith, c .if3 .left)) e))
+
+check-short-requires : tie.Need-check-short-requires
+check-short-requires c κs = search needs
 
 returns-4 : tie.Need-returns-4
-unfolding scratchNeed
-returns-4 c =
-    let d = c .before in
-    measured (d .before .before)
-    (ifLt-no _ _ _ _ _ (d .before .if2 .left) (ifLt-no _ _ _ _ _ (omega (arith, d .if3 .left)) (c .check-within .ensures)))
+returns-4 c = tested (c .before .before) (c .check-short .ensures)
+
+check-roomy-requires : tie.Need-check-roomy-requires
+check-roomy-requires c κs = search needs
+
+returns-5 : tie.Need-returns-5
+returns-5 c = tested (c .before .before) (c .check-roomy .ensures)
 
 pub check-lent-spec : {M : Type 1} → statement M
 check-lent-spec =
@@ -74,5 +85,7 @@ check-lent-spec =
     mul-if3
     add-if3
     returns-3
-    check-within-requires
-    returns-4)
+    check-short-requires
+    returns-4
+    check-roomy-requires
+    returns-5)

@@ -2,7 +2,10 @@
 use Prim.Native.Nat.{ℕ}
 use mathlib.Core.Path.{sym, ap₂, subst, _∙_}
 use mathlib.Core.List.{List}
+use native.Mathlib.Omega.{arith}
 use borrow.Author.Needs.{needs}
+use lib.ListN.{length}
+use lib.Seq.{length-take-le, take-all}
 use Rattle.laws.proofs.Tabulates.{overwrite-ext}
 use Rattle.reading.specs.Reading.{readOutcome}
 use Rattle.tables.specs.Datapath.{imageOf}
@@ -18,7 +21,7 @@ use Rattle.reading.proofs.gathering.read_by.Tie as tie
 -- ---- the places
 
 abbrev start : tie.After-gather → tie.Start
-start c = c .before .before .before .before .before .before .before
+start c = c .before .before .before .before .before .before .before .before
 
 abbrev answered : tie.After-slice-known5 → tie.After-gather
 answered c = c .before .before .before .before
@@ -32,15 +35,27 @@ Says c answer =
     let s = start c in
     GathersAll (s .args .shape .words) (s .args .shape .width) (s .args .file .now) answer (c .gather .last .1 .1 .0) (c .gather .last .1 .1 .1 .0)
 
+-- it was said of the part that is the whole file
+said : (c : tie.After-gather) → Says c (c .gather .result)
+said c =
+    let s = start c in
+    let file = s .args .file .now in
+    let told = c .gather .ensures in
+    subst (λ (z : List ℕ). GathersAll (s .args .shape .words) (s .args .shape .width) z (c .gather .result)
+    (c .gather .last .1 .1 .0) (c .gather .last .1 .1 .1 .0)) (take-all (length file) file (omega arith)) told
+
 -- all lines passed
 all-gathered : (c : tie.After-known-told2) → Says (passed c) (All (c .before .pass .given .0 .0))
-all-gathered c = subst (Says (passed c)) (c .before .pass .given .1) (passed c .gather .ensures)
+all-gathered c = subst (Says (passed c)) (c .before .pass .given .1) (said (passed c))
 
 -- ---- the needs
 
+slice-aggregate-gather : tie.Need-slice-aggregate-gather
+slice-aggregate-gather c = sym (length-take-le _ _ (omega arith))
+
 gather-requires : tie.Need-gather-requires
 gather-requires c κs =
-    let s = c .before .before .before .before .before .before in
+    let s = c .before .before .before .before .before .before .before in
     (s .pre .0 .0, gather-none _ (s .pre .0 .0 .dims) (s .pre .1 .0) (s .pre .1 .1))
 
 enum-known-refusal : tie.Need-enum-known-refusal
@@ -65,7 +80,7 @@ returns : tie.Need-returns
 returns c =
     let g = answered (c .before .before .before) in
     let images = start g .args .images .now in
-    let stops = subst (Says g) (c .before .refusal .given .1) (g .gather .ensures) in
+    let stops = subst (Says g) (c .before .refusal .given .1) (said g) in
     sym (stops (λ r. readOutcome (Refused r) images) _)
 
 same-length-3 : tie.Need-same-length-3
@@ -95,6 +110,7 @@ pub read-by-spec : {M : Type 1} → statement M
 read-by-spec =
     tie.close
     (tie.spec
+    slice-aggregate-gather
     gather-requires
     enum-known-refusal
     enum-known-pass
