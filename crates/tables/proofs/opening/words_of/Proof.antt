@@ -1,5 +1,6 @@
 -- `opening::words_of` meets its contract: the tests are those of the definition.
 use mathlib.Core.Path.{refl}
+use native.Mathlib.Omega.{arith}
 use borrow.Author.Needs.{needs}
 use Rattle.laws.proofs.Choices.{ifLe-yes, ifLe-no, ifEq-yes, ifEq-no}
 use Rattle.tables.specs.inner.Opening.{wordsOf}
@@ -29,7 +30,7 @@ returns-4 c =
     let d = c .before in
     let b = d .before in
     ifEq-no _ _ _ _ _ (b .before .if1 .left) (ifEq-no _ _ _ _ _ (rw (b .needed-bytes .ensures) at (d .if3 .left))
-    (ifLe-yes _ _ _ _ _ (c .if4 .taken) refl))
+    (ifLe-yes _ _ _ _ _ (omega (arith, c .if4 .taken)) refl))
 
 returns-5 : tie.Need-returns-5
 unfolding wordsOf
