@@ -36,14 +36,15 @@ use Rattle.promises.specs.Questions.{generationOf, answer}
 use Rattle.promises.specs.Examples.{examples, ExamplesHold}
 
 pub examples-hold : ExamplesHold
-unfolding ifLt ifLe ifEq any sum is hits tabulate overwrite joined inverse digit bit field digits numberAt packed refusalReply orderOf earlier checkFrom
-    checkOf bitCount depthOf leaves crossings next rank least chosen setting carried settledOf written settingOf settingReply firstBad passageOf followOf
-    followedReply limitTest dimsTest padded logFrom logUp cycles addressBits depth switchBits addressRow lineBits fileLength shortHeader longHeader
-    headerOf headerBytes headerFirst headerWidth headerMark byForm headerWords neededBytes lineAt readAddress switchBit lineCrossings writeAddress filling shapeOf headerTest lengthTest openOf carriedTo target
+unfolding ifLt ifLe ifEq any sum is hits tabulate overwrite joined inverse digit bit field digits numberAt packed refusalReply orderOf
+    earlier checkFrom checkOf bitCount depthOf leaves crossings next rank least chosen setting carried settledOf written settingOf
+    settingReply firstBad passageOf followOf followedReply limitTest dimsTest padded logFrom logUp cycles addressBits depth switchBits
+    addressRow lineBits fileLength shortHeader longHeader headerOf headerBytes headerFirst headerWidth headerMark byForm headerWords
+    neededBytes lineAt readAddress switchBit lineCrossings writeAddress filling shapeOf headerTest lengthTest openOf carriedTo target
     readStrays carryStrays writeStrays wordOf portOf writeOf lineOf setBits setOf portAt barred tried finishes misses firstTest readFault
-    writeFault scanLines imageOf readLines readOpened readOf readingReply scratchNeed lentTest checksOf generationReply run spot fresh nextFrame
-    nextClock leaving moving entering movedCrossings advanceOf saysOf accepted bufferTest clockTest lineTest stepLine stepOpened stepOf said clockAfter carded
-    machine advanceValues stepReply replies cardReply reported empty given took turned plain answer examples
+    writeFault scanLines imageOf readLines readOpened readOf readingReply scratchNeed lentTest checksOf generationReply run spot fresh
+    nextFrame nextClock leaving moving entering movedCrossings advanceOf saysOf accepted bufferTest clockTest lineTest stepLine stepOpened
+    stepOf said clockAfter carded machine advanceValues stepReply replies cardReply reported empty given took turned plain answer examples
 examples-hold = refl
 
 -- the answer of generating, by its contract

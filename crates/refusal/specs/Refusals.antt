@@ -21,14 +21,14 @@ use Rattle.refusal.specs.declared.Refusal.the-variants.{
 
 abbrev pub numberOf : Refusal → ℕ
 -- by the author of a permutation
-numberOf FrameSize = 1  -- n is 0 or above 4,096
+numberOf FrameSize = 1  -- n is 0 or above 16,384
 numberOf Width = 2  -- the width is 0 or above 64; for the network alone, not 1, 2, 4, 8, 16, 32 or 64
-numberOf PaddedSize = 3  -- n, extended to the next multiple of w, is above 4,096
+numberOf PaddedSize = 3  -- n, extended to the next multiple of w, is above 16,384
 numberOf (OutOfRange i) = 4  -- image i is n or more
 numberOf (Repeated i) = 5  -- image i was already an earlier element's
 -- by the holder of a table set
-numberOf FileShort = 6  -- fewer than 3 bytes, or fewer than the header implies
-numberOf Header = 7  -- the header breaks a limit, w does not divide n, or one of its four last bits is set
+numberOf FileShort = 6  -- fewer bytes than the header has, 3 or 5 by its form, or than it implies
+numberOf Header = 7  -- the header breaks a limit, w does not divide n, or its four last bits fit neither form
 numberOf FileLong = 8  -- bytes follow the length, or a filling bit is set
 numberOf (ReadAddress t) = 9  -- a read address in line t is c or more, or that bank has read it before
 numberOf (SpareLine t) = 10  -- line t's network carries a line below w to w or above

@@ -63,9 +63,6 @@ dims-both P n w refused next refused′ next′ stops goes =
     limit-both P n w _ _ _ _ (λ _. stops) λ L.
     ifEq-both P (n % w) 0 _ _ _ _ (λ even. goes (limited-dims L even)) (λ _. stops)
 
-pub dims-cases : {X : Type 0} (P : X → Type 0) (n w : ℕ) (refused next : X) → P refused → (Dims n w → P next) → P (dimsTest n w refused next)
-dims-cases P n w refused next = dims-both (λ x _. P x) n w refused next refused next
-
 pub dims-passes : {X : Type 0} {n w : ℕ} (refused next : X) → Dims n w → dimsTest n w refused next ≡ next
 unfolding dimsTest
 dims-passes {n = n} {w} refused next D =
