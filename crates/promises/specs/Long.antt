@@ -28,7 +28,8 @@ pub record Headed (n w : ℕ) (bits : List ℕ) (bytes : ℕ) : Type 0 where
 abbrev pub LongHeader : List ℕ → Type 0
 LongHeader file = (field file 0 13 ≡ 0) × (field file 20 4 ≡ 1)
 
--- document 01's tests of a file's form, which know of no long form: 6 for the header, 7, 6 for the whole, 8
+-- document 01's tests of a file's form, which know of no long form: 6 for the header, 7, 6 for the whole, 8. Up to 4,096 words those of the whole
+-- are document 01's by `short-kept`
 unfoldable pub oldOpen : List ℕ → Opened
 oldOpen file =
     let n : ℕ = field file 0 13 in

@@ -2,6 +2,7 @@
 -- tests of such a header come to.
 use Prim.Native.Nat.{ℕ, _/_, _%_, _^_}
 use mathlib.Core.Path.{_≡_, refl, sym, ap, _∙_}
+use native.Mathlib.Omega.{arith}
 use native.Mathlib.Nat.{div-one}
 use borrow.Author.Needs.{needs}
 use Rattle.laws.proofs.Choices.{ifLt-yes}
@@ -57,7 +58,7 @@ said c =
     let h = header c in
     let enough = c .before in
     let file = start h .args .file .now in
-    opened-said _ (first-read h) (width-read h) (mark-read h) (h .before .if1 .left) (words-read h)
+    opened-said _ (first-read h) (width-read h) (mark-read h) (omega (arith, h .before .if1 .left)) (words-read h)
     (rw (enough .before .needed-bytes .ensures) at (enough .if2 .left))
     ∙ ap (λ (m : ℕ). dimsTest m (width c) (Refused Header) (lengthTest m (width c) file)) (sym (c .words-of .ensures))
 
@@ -85,7 +86,7 @@ returns-2 : tie.Need-returns-2
 returns-2 c =
     let n = c .before in
     let h = n .before in
-    sym (opened-cut _ (first-read h) (width-read h) (mark-read h) (h .before .if1 .left) (rw (n .needed-bytes .ensures) at (c .if2 .taken)))
+    sym (opened-cut _ (first-read h) (width-read h) (mark-read h) (omega (arith, h .before .if1 .left)) (rw (n .needed-bytes .ensures) at (c .if2 .taken)))
 
 words-of-requires : tie.Need-words-of-requires
 words-of-requires c κs = search needs
