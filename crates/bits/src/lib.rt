@@ -103,6 +103,27 @@ pub fn with_zeros(bytes: &[u8]) -> [u8; 8]
     longer
 }
 
+// What a slice that is too short for its fields to be taken is replaced by, and zeros for any other. Only our own crates call it.
+pub fn padded(bytes: &[u8]) -> [u8; 8]
+    ensures { λ r. ⌜ (length (now (bytes .entry)) < 8 → WithZeros (now (bytes .entry)) r) ⌝ }
+{
+    if bytes.len() < 8 {
+        return with_zeros(bytes);
+    }
+    [0u8; 8]
+}
+
+// A slice from which the fields of `bytes` can be taken: `bytes` itself, or where it is short what replaces it. Only our own crates call it.
+pub fn long_enough<'a>(bytes: &'a [u8], replacement: &'a [u8]) -> &'a [u8]
+    requires { ⌜ (length (now bytes) < 8 → WithZeros (now bytes) (now replacement)) ⌝ }
+    ensures { λ r. ⌜ WithZeros (now (bytes .entry)) (now r) ⌝ }
+{
+    if bytes.len() < 8 {
+        return replacement;
+    }
+    bytes
+}
+
 // `old` with `value` for its `width` binary digits above the `below` lowest.
 fn with_digits(old: u32, below: usize, width: usize, value: u32) -> u32
     requires { ⌜ old < 2 ^ 24 ⌝ }

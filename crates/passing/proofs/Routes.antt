@@ -1,13 +1,13 @@
 -- Laws of routing. `taken-more` and `joined-more` are one turn of the loops that take lines in and give them out, and `switched` is a
--- network of two lines. `routed-more` is one level of the recursion: a line goes in by its input switch, through the inner network of its
--- half, and out by an output switch.
+-- switch by itself. `routed-more` is one level of the recursion: a line goes in by its input switch, through the inner network of its
+-- half, and out by an output switch. `sized-depth` is for the widths at which the recursion ends.
 use Prim.Native.Nat.{ℕ, zero, suc, _+_, _*_, _-_, _/_, _%_, _^_, _<_, _≤_}
 use mathlib.Core.Path.{_≡_, refl, sym, ap, _∙_}
 use mathlib.Core.List.{List, _++_}
-use native.Mathlib.Nat.{two-pow-succ, zero-add}
+use native.Mathlib.Nat.{two-pow-succ}
 use native.Mathlib.Omega.{arith}
-use native.Mathlib.Decide.{ℕ-discrete}
-use lib.Pow.{pow-pos}
+use native.Mathlib.Decide.{ℕ-discrete, decLt}
+use lib.Pow.{pow-pos, pow-lt}
 use lib.ListN.{length, getD, set, take, drop, length-set, List·getD-append, List·getD-eq-default}
 use lib.Seq.{getD-set-same, getD-set-other, getD-take, length-take-le, length-front}
 use Rattle.limits.specs.Limits.{mostWidth, mostInner}
@@ -34,32 +34,31 @@ module _ {bits lines : List ℕ} {h : ℕ} where
         (ap (λ (z : ℕ). getD lines z 0) e) (old .each);
   }
 
--- what stands behind a switch whose even and odd line are told by its bit: a came in on its first line and b on its second
-behind-switch : (after : List ℕ) (n bit a b : ℕ) → getD after (2 * n) 0 ≡ ifEq (bit % 2) 0 a b → getD after (2 * n + 1) 0 ≡ ifEq (bit % 2) 0 b a
-    → (getD after (2 * n + (0 + bit) % 2) 0 ≡ a) × (getD after (2 * n + (1 + bit) % 2) 0 ≡ b)
-behind-switch after n bit a b even odd = elim (ℕ-discrete (bit % 2) 0) [
+-- what stands behind a switch, told by its bit on its lines `line 0` and `line 1`: a came in on the first and b on the second
+pub behind-switch : (after : List ℕ) (line : ℕ → ℕ) (bit a b : ℕ)
+    → getD after (line 0) 0 ≡ ifEq (bit % 2) 0 a b → getD after (line 1) 0 ≡ ifEq (bit % 2) 0 b a
+    → (getD after (line ((0 + bit) % 2)) 0 ≡ a) × (getD after (line ((1 + bit) % 2)) 0 ≡ b)
+behind-switch after line bit a b even odd = elim (ℕ-discrete (bit % 2) 0) [
   | yes s ↦
-      let first : 2 * n + (0 + bit) % 2 ≡ 2 * n = omega arith in
-      let second : 2 * n + (1 + bit) % 2 ≡ 2 * n + 1 = omega arith in
+      let first : (0 + bit) % 2 ≡ 0 = omega arith in
+      let second : (1 + bit) % 2 ≡ 1 = omega arith in
       (rw first (even ∙ sym (ifEq-yes (bit % 2) 0 a a b s refl)), rw second (odd ∙ sym (ifEq-yes (bit % 2) 0 b b a s refl)))
   | no s ↦
-      let first : 2 * n + (0 + bit) % 2 ≡ 2 * n + 1 = omega arith in
-      let second : 2 * n + (1 + bit) % 2 ≡ 2 * n = omega arith in
+      let first : (0 + bit) % 2 ≡ 1 = omega arith in
+      let second : (1 + bit) % 2 ≡ 0 = omega arith in
       (rw first (odd ∙ sym (ifEq-no (bit % 2) 0 a b a s refl)), rw second (even ∙ sym (ifEq-no (bit % 2) 0 b a b s refl)))
 ]
 
--- the lines of switch n after a store on each
-stored-even : (lines : List ℕ) (n u v : ℕ) → 2 * n + 1 < length lines → getD (set (set lines (2 * n) u) (2 * n + 1) v) (2 * n) 0 ≡ u
-stored-even lines n u v l =
-    getD-set-other (set lines (2 * n) u) (2 * n + 1) (2 * n) v 0 (λ q. omega arith) ∙ getD-set-same lines (2 * n) u 0 (omega arith)
+-- the lines i and j after a store on each
+stored-first : (lines : List ℕ) (i j u v : ℕ) → i < j → j < length lines → getD (set (set lines i u) j v) i 0 ≡ u
+stored-first lines i j u v l m = getD-set-other (set lines i u) j i v 0 (λ q. omega arith) ∙ getD-set-same lines i u 0 (omega arith)
 
-stored-odd : (lines : List ℕ) (n u v : ℕ) → 2 * n + 1 < length lines → getD (set (set lines (2 * n) u) (2 * n + 1) v) (2 * n + 1) 0 ≡ v
-stored-odd lines n u v l = getD-set-same (set lines (2 * n) u) (2 * n + 1) v 0 (rw (length-set lines (2 * n) u) l)
+stored-second : (lines : List ℕ) (i j u v : ℕ) → j < length lines → getD (set (set lines i u) j v) j 0 ≡ v
+stored-second lines i j u v m = getD-set-same (set lines i u) j v 0 (rw (length-set lines i u) m)
 
--- the lines of other switches
-stored-other : (lines : List ℕ) (n u v x : ℕ) → (x / 2 ≡ n → ⊥) → getD (set (set lines (2 * n) u) (2 * n + 1) v) x 0 ≡ getD lines x 0
-stored-other lines n u v x f =
-    getD-set-other (set lines (2 * n) u) (2 * n + 1) x v 0 (λ e. f (omega arith)) ∙ getD-set-other lines (2 * n) x u 0 (λ e. f (omega arith))
+-- the other lines
+stored-other : (lines : List ℕ) (i j u v x : ℕ) → (x ≡ i → ⊥) → (x ≡ j → ⊥) → getD (set (set lines i u) j v) x 0 ≡ getD lines x 0
+stored-other lines i j u v x f g = getD-set-other (set lines i u) j x v 0 g ∙ getD-set-other lines i x u 0 f
 
 -- giving out: no switch, one more, and the last, which has no bit
 module _ {bits : List ℕ} {from : ℕ} {upper lower : List ℕ} where
@@ -71,15 +70,20 @@ module _ {bits : List ℕ} {from : ℕ} {upper lower : List ℕ} where
       → Joined (n + 1) bits from upper lower (set (set lines (2 * n) u) (2 * n + 1) v)
   joined-more {n} {bit} {u} {v} {lines} old l e eu ev =
       let after : List ℕ = set (set lines (2 * n) u) (2 * n + 1) v in
-      let here = behind-switch after n bit (getD upper n 0) (getD lower n 0) (stored-even lines n u v l ∙ eu) (stored-odd lines n u v l ∙ ev) in
+      let output : ℕ → ℕ = λ i. getD bits (from + i) 0 in
+      let even : 2 * n + 0 ≡ 2 * n = omega arith in
+      let here = behind-switch after (λ y. 2 * n + y) bit (getD upper n 0) (getD lower n 0)
+      (rw even (stored-first lines (2 * n) (2 * n + 1) u v (omega arith) l ∙ eu)) (stored-second lines (2 * n) (2 * n + 1) u v l ∙ ev) in
+      let elsewhere : (h j : ℕ) → (j ≡ n → ⊥) → getD after (exit output h j) 0 ≡ getD lines (exit output h j) 0 =
+      λ h j f. stored-other lines (2 * n) (2 * n + 1) u v (exit output h j) (λ q. f (omega arith)) (λ q. f (omega arith)) in
       record {
         above = λ j m. elim (ℕ-discrete j n) [
           | yes f ↦ rw (f, ← e) (here .0)
-          | no f ↦ stored-other lines n u v (exit (λ i. getD bits (from + i) 0) 0 j) (λ q. f (omega arith)) ∙ old .above j (omega arith)
+          | no f ↦ elsewhere 0 j f ∙ old .above j (omega arith)
         ];
         beneath = λ j m. elim (ℕ-discrete j n) [
           | yes f ↦ rw (f, ← e) (here .1)
-          | no f ↦ stored-other lines n u v (exit (λ i. getD bits (from + i) 0) 1 j) (λ q. f (omega arith)) ∙ old .beneath j (omega arith)
+          | no f ↦ elsewhere 1 j f ∙ old .beneath j (omega arith)
         ];
       }
 
@@ -88,25 +92,26 @@ module _ {bits : List ℕ} {from : ℕ} {upper lower : List ℕ} where
   joined-last {n} {m} old l none all =
       rw all (joined-more {bit = 0} old l (sym (List·getD-eq-default bits 0 none)) (ifEq-yes (0 % 2) 0 _ _ _ refl refl) (ifEq-yes (0 % 2) 0 _ _ _ refl refl))
 
--- the two lines of a network that is one switch
-pub switched : {bit u v : ℕ} {lines : List ℕ} → length lines ≡ 2 → u ≡ ifEq (bit % 2) 0 (getD lines 0 0) (getD lines 1 0)
-    → v ≡ ifEq (bit % 2) 0 (getD lines 1 0) (getD lines 0 0) → Switched bit lines (set (set lines 0 u) 1 v)
-switched {bit} {u} {v} {lines} two eu ev =
-    let after : List ℕ = set (set lines 0 u) 1 v in
-    let here = behind-switch after 0 bit (getD lines 0 0) (getD lines 1 0)
-    (stored-even lines 0 u v (omega arith) ∙ eu) (stored-odd lines 0 u v (omega arith) ∙ ev) in
-    record {
-      moved = λ x l. elim (ℕ-discrete x 0) [
-        | yes f ↦ rw f (ap (λ (z : ℕ). getD after z 0) (sym (zero-add ((0 + bit) % 2))) ∙ here .0)
-        | no f ↦ let odd : x ≡ 1 = omega arith in rw odd (ap (λ (z : ℕ). getD after z 0) (sym (zero-add ((1 + bit) % 2))) ∙ here .1)
-      ];
-    }
+-- a store on each line of a switch
+pub switched : {bit one other u v : ℕ} {lines : List ℕ} → one < other → other < length lines
+    → u ≡ ifEq (bit % 2) 0 (getD lines one 0) (getD lines other 0) → v ≡ ifEq (bit % 2) 0 (getD lines other 0) (getD lines one 0)
+    → Switched bit one other lines (set (set lines one u) other v)
+switched {bit} {one} {other} {u} {v} {lines} l m eu ev = record {
+  long = length-set (set lines one u) other v ∙ length-set lines one u;
+  first = stored-first lines one other u v l m ∙ eu;
+  second = stored-second lines one other u v m ∙ ev;
+  stayed = stored-other lines one other u v;
+}
 
--- one line stays where it is
-pub routed-one : (d : ℕ) (bits lines : List ℕ) → length lines ≡ 1 → length lines ≡ 2 ^ d → Routed d bits lines lines
-unfolding leaves
-routed-one zero bits lines one wide = record { long = refl; moved = λ x l. refl }
-routed-one (suc e) bits lines one wide = absurd (omega (arith, two-pow-succ e, pow-pos e))
+-- the sizes of a network tell its depth
+pub sized-depth : {width count d : ℕ} (k : ℕ) → width ≡ 2 ^ k → Sized width count d → (d ≡ k) × (count ≡ bitCount k)
+sized-depth {d = d} k wide s = elim (decLt d k) [
+  | yes l ↦ absurd (omega (arith, s .0, pow-lt l))
+  | no f ↦ elim (decLt k d) [
+    | yes l ↦ absurd (omega (arith, s .0, pow-lt l))
+    | no g ↦ let same : d ≡ k = omega arith in (same, s .1 ∙ ap bitCount same)
+  ]
+]
 
 -- two lines go through the one switch
 pub two-leaves : (bits : ℕ → ℕ) (x : ℕ) → x < 2 → leaves 1 bits x ≡ (x + bits 0) % 2
@@ -114,15 +119,6 @@ unfolding leaves ifLt
 two-leaves bits zero l = omega arith
 two-leaves bits (suc zero) l = omega arith
 two-leaves bits (suc (suc x)) l = absurd (omega arith)
-
-pub routed-two : (d : ℕ) (bits before after : List ℕ) → length before ≡ 2 → length before ≡ 2 ^ d → length after ≡ length before
-    → Switched (getD bits 0 0) before after → Routed d bits before after
-routed-two zero bits before after two wide same S = absurd (omega arith)
-routed-two (suc zero) bits before after two wide same S = record {
-  long = same;
-  moved = λ x l. rw (two-leaves (λ i. getD bits i 0) x l) (S .moved x l);
-}
-routed-two (suc (suc e)) bits before after two wide same S = absurd (omega (arith, two-pow-succ (suc e), two-pow-succ e, pow-pos e))
 
 -- a network of more than one line and at most 64, taken apart: each inner network has m lines and n bits
 pub record Split (bits lines : List ℕ) (d m n : ℕ) : Type 0 where

@@ -10,7 +10,7 @@ use native.Mathlib.Decide.{decLt}
 use lib.Dec.{leb, eqb}
 use lib.ListN.{length, getD, replicate, length-replicate, getD-replicate}
 use borrow.Author.Tests.{leb-false, eq-eqb, ne-eqb, eqb-true, eqb-false}
-use Rattle.limits.specs.Limits.{mostWords, noWord}
+use Rattle.limits.specs.Limits.{mostWords, mostWidth, noWord}
 use Rattle.laws.specs.Choice.{choose}
 use Rattle.laws.specs.Any.{any}
 use Rattle.laws.proofs.Anys.{any-true, any-false, any-ext}
@@ -29,13 +29,13 @@ use Rattle.reading.specs.Reading.{ReadOutcome, readOutcome, readFault, w
 use Rattle.reading.specs.declared.Contents.{Contents}
 use Rattle.reading.specs.declared.Reading.the-variants.{Read, Refused as Unread}
 use Rattle.tables.specs.inner.Lines.{Line}
-use Rattle.reading.specs.inner.Gathering.{faulty, wordAt, placeAt, Unmarked, Gather, Markable, Marked}
+use Rattle.reading.specs.inner.Gathering.{faultAt, faulty, wordAt, placeAt, Unmarked, Gather, Marked}
+use Rattle.reading.specs.inner.Rows.{Kept, Sending}
 use Rattle.tables.proofs.Dims.{Dims, word-below, word-injective, depth-reaches}
 use Rattle.tables.proofs.Accepted.{Accepted}
 use Rattle.reading.proofs.Scanned.{Passes, sound-below, sound-fresh, passes-accepted, accepted-scan, scan-passes}
-use Rattle.tables.proofs.Targets.{source-found, image-permutes}
 use Rattle.tables.proofs.Lined.{read-is, write-is, source-is}
-use Rattle.reading.proofs.Marks.{faultAt}
+use Rattle.tables.proofs.Targets.{source-found, image-permutes}
 
 -- an array that was just made holds no marks
 pub unmarked-made : (m : ℕ) {n : ℕ} → n ≤ m → Unmarked n (replicate m noWord)
@@ -83,8 +83,7 @@ fault-either c x r s same = by (leb c x) refl
     by true e = refl
     by false e = same (leb-false c x e)
 
-module _ {n w : ℕ} {file : List ℕ} {t : ℕ} {places words reads sources writes : List ℕ} (D : Dims n w)
-    (G : Gather n w file t places words) (L : Line n w file t reads sources writes) where
+module _ {n w : ℕ} {file : List ℕ} {t : ℕ} {places words : List ℕ} (D : Dims n w) (G : Gather n w file t places words) where
   -- what passed before
   before-read : (s b : ℕ) → s < t → b < w → readAddress n w file s b < cycles n w
   unfolding readFault
@@ -108,10 +107,11 @@ module _ {n w : ℕ} {file : List ℕ} {t : ℕ} {places words reads sources wri
   unfolding source
   before-source s b l m = omega (arith, word-below D (readAddress n w file s b) b (before-read s b l m) m, D .few)
 
-  pub read-faults : faulty reads places w (cycles n w) ≡ any w (readFault n w file t)
+  pub read-faults : (reads : List ℕ) → ((b : ℕ) → b < w → getD reads b 0 ≡ readAddress n w file t b)
+      → faulty reads places w (cycles n w) ≡ any w (readFault n w file t)
   unfolding readFault source
-  read-faults = faults-agree w (cycles n w) reads places (readFault n w file t) λ b l.
-      rw (read-is L b l) (fault-either (cycles n w) (readAddress n w file t b) _ _ λ m.
+  read-faults reads R = faults-agree w (cycles n w) reads places (readFault n w file t) λ b l.
+      rw (R b l) (fault-either (cycles n w) (readAddress n w file t b) _ _ λ m.
       mark-tells t (λ s. readAddress n w file s b) (readAddress n w file t b) _
       (λ s q e none.
       let same : getD places (readAddress n w file s b * w + b) 0 ≡ getD places (readAddress n w file t b * w + b) 0 =
@@ -124,10 +124,11 @@ module _ {n w : ℕ} {file : List ℕ} {t : ℕ} {places words reads sources wri
   unfolding carriedTo
   sender s k l m = onto w (leaves (depth w) (switchBit n w file s)) (leaves-kept (depth w) w (switchBit n w file s) (depth-reaches w) (before-carried s l)) k m
 
-  pub write-faults : faulty writes words w (cycles n w) ≡ any w (writeFault n w file t)
+  pub write-faults : (writes : List ℕ) → ((k : ℕ) → k < w → getD writes k 0 ≡ writeAddress n w file t k)
+      → faulty writes words w (cycles n w) ≡ any w (writeFault n w file t)
   unfolding writeFault target
-  write-faults = faults-agree w (cycles n w) writes words (writeFault n w file t) λ k l.
-      rw (write-is L k l) (fault-either (cycles n w) (writeAddress n w file t k) _ _ λ m.
+  write-faults writes W = faults-agree w (cycles n w) writes words (writeFault n w file t) λ k l.
+      rw (W k l) (fault-either (cycles n w) (writeAddress n w file t k) _ _ λ m.
       mark-tells t (λ s. writeAddress n w file s k) (writeAddress n w file t k) _
       (λ s q e none.
       let r = sender s k q l in
@@ -136,20 +137,42 @@ module _ {n w : ℕ} {file : List ℕ} {t : ℕ} {places words reads sources wri
       omega (arith, before-source s (r .0) q (r .1), G .worded s (r .0) q (r .1), ap (λ (z : ℕ). getD words z 0) at))
       (λ f. G .untaken (writeAddress n w file t k) k m l f))
 
+-- a line of which no read address is outside the frame and no word leaves on a spare line
+module _ {n w : ℕ} {file : List ℕ} {t : ℕ} {reads sources writes : List ℕ} (D : Dims n w) (L : Line n w file t reads sources writes)
+    (now-read : (b : ℕ) → b < w → readAddress n w file t b < cycles n w) (no-carry : carryStrays n w file t ≡ false) where
+  now-carried : (b : ℕ) → b < w → carriedTo n w file t b < w
+  unfolding carryStrays
+  now-carried b l = leb-false w (carriedTo n w file t b) (any-false w (λ b. leb w (carriedTo n w file t b)) no-carry b l)
+
+  -- the bank whose word goes to bank k
+  bank : (k : ℕ) → k < w → (getD sources k 0 < w) × (carriedTo n w file t (getD sources k 0) ≡ k)
+  unfolding carriedTo
+  bank k l =
+      let r = onto w (leaves (depth w) (switchBit n w file t)) (leaves-kept (depth w) w (switchBit n w file t) (depth-reaches w) now-carried) k l in
+      let e : getD sources k 0 ≡ r .0 = ap (λ (z : ℕ). getD sources z 0) (sym (r .2)) ∙ source-is L (r .0) (omega (arith, r .1, depth-reaches w)) in
+      (rw e (r .1), rw e (r .2))
+
+  word-is : (k : ℕ) → k < w → wordAt reads sources w k ≡ source n w file t (getD sources k 0)
+  unfolding source
+  word-is k l = ap (λ (z : ℕ). z * w + getD sources k 0) (read-is L (getD sources k 0) (bank k l .0))
+
+  -- the words go to banks of their own
+  pub sending : {kept : List ℕ} → length sources ≡ mostWidth → Kept reads w w kept → Sending reads sources kept n w
+  unfolding source
+  sending long K = record {
+    sources-long = long;
+    kept = K;
+    banks = λ k l. bank k l .0;
+    inside = λ k l. rw (word-is k l)
+        (word-below D (readAddress n w file t (getD sources k 0)) (getD sources k 0) (now-read (getD sources k 0) (bank k l .0)) (bank k l .0));
+    apart = λ j k l m e.
+        let q = word-injective w (getD reads (getD sources j 0) 0) (getD reads (getD sources k 0) 0) (getD sources j 0) (getD sources k 0)
+        (bank j l .0) (bank k m .0) e in
+        sym (bank j l .1) ∙ ap (carriedTo n w file t) (q .1) ∙ bank k m .1;
+  }
+
   -- from here on line t passes
-  module _ (no-read : any w (readFault n w file t) ≡ false) (no-carry : carryStrays n w file t ≡ false) (no-write : any w (writeFault n w file t) ≡ false) where
-    now-read : (b : ℕ) → b < w → readAddress n w file t b < cycles n w
-    unfolding readFault
-    now-read b l = sound-below (cycles n w) (λ z. readAddress n w file z b) t (any-false w (readFault n w file t) no-read b l)
-
-    now-write : (k : ℕ) → k < w → writeAddress n w file t k < cycles n w
-    unfolding writeFault
-    now-write k l = sound-below (cycles n w) (λ z. writeAddress n w file z k) t (any-false w (writeFault n w file t) no-write k l)
-
-    now-carried : (b : ℕ) → b < w → carriedTo n w file t b < w
-    unfolding carryStrays
-    now-carried b l = leb-false w (carriedTo n w file t b) (any-false w (λ b. leb w (carriedTo n w file t b)) no-carry b l)
-
+  module _ {places words : List ℕ} (G : Gather n w file t places words) (no-read : any w (readFault n w file t) ≡ false) (no-write : any w (writeFault n w file t) ≡ false) where
     fresh-read : (s b : ℕ) → s < t → b < w → readAddress n w file s b ≡ readAddress n w file t b → ⊥
     unfolding readFault
     fresh-read s b l m = sound-fresh (cycles n w) (λ z. readAddress n w file z b) t (any-false w (readFault n w file t) no-read b m) s l
@@ -157,22 +180,6 @@ module _ {n w : ℕ} {file : List ℕ} {t : ℕ} {places words reads sources wri
     fresh-write : (s k : ℕ) → s < t → k < w → writeAddress n w file s k ≡ writeAddress n w file t k → ⊥
     unfolding writeFault
     fresh-write s k l m = sound-fresh (cycles n w) (λ z. writeAddress n w file z k) t (any-false w (writeFault n w file t) no-write k m) s l
-
-    -- the bank whose word goes to bank k
-    bank : (k : ℕ) → k < w → (getD sources k 0 < w) × (carriedTo n w file t (getD sources k 0) ≡ k)
-    unfolding carriedTo
-    bank k l =
-        let r = onto w (leaves (depth w) (switchBit n w file t)) (leaves-kept (depth w) w (switchBit n w file t) (depth-reaches w) now-carried) k l in
-        let e : getD sources k 0 ≡ r .0 = ap (λ (z : ℕ). getD sources z 0) (sym (r .2)) ∙ source-is L (r .0) (omega (arith, r .1, depth-reaches w)) in
-        (rw e (r .1), rw e (r .2))
-
-    word-is : (k : ℕ) → k < w → wordAt reads sources w k ≡ source n w file t (getD sources k 0)
-    unfolding source
-    word-is k l = ap (λ (z : ℕ). z * w + getD sources k 0) (read-is L (getD sources k 0) (bank k l .0))
-
-    place-is : (k : ℕ) → k < w → placeAt writes w k ≡ target n w file t (getD sources k 0)
-    unfolding target
-    place-is k l = ap (λ (z : ℕ). z * w + k) (write-is L k l) ∙ ap (λ (z : ℕ). writeAddress n w file t z * w + z) (sym (bank k l .1))
 
     -- a word of line t is that of its bank, and of no earlier line
     word-apart : (k a b : ℕ) → k < w → b < w → wordAt reads sources w k ≡ a * w + b → (readAddress n w file t b ≡ a) × (getD sources k 0 ≡ b)
@@ -185,34 +192,6 @@ module _ {n w : ℕ} {file : List ℕ} {t : ℕ} {places words reads sources wri
     place-apart k a d l m e =
         let q = word-injective w (getD writes k 0) a k d l m e in
         (ap (writeAddress n w file t) (sym (q .1)) ∙ sym (write-is L k l) ∙ q .0, q .1)
-
-    -- they are those of a frame
-    word-few : (k : ℕ) → k < w → wordAt reads sources w k < n
-    unfolding source
-    word-few k l = rw (word-is k l)
-        (word-below D (readAddress n w file t (getD sources k 0)) (getD sources k 0) (now-read (getD sources k 0) (bank k l .0)) (bank k l .0))
-
-    place-few : (k : ℕ) → k < w → placeAt writes w k < n
-    place-few k l = rw (write-is L k l) (word-below D (writeAddress n w file t k) k (now-write k l) l)
-
-    pub markable : Markable reads sources writes places words w
-    unfolding source target
-    markable = record {
-      few = D .narrow;
-      reads-long = L .reading .long;
-      sources-long = L .carrying .long;
-      writes-long = L .writing .long;
-      banks = λ k l. bank k l .0;
-      words-inside = λ k l. omega (arith, word-few k l, G .long);
-      places-inside = λ k l. omega (arith, place-few k l, G .long′);
-      words-below = λ k l. omega (arith, word-few k l, D .few);
-      places-below = λ k l. omega (arith, place-few k l, D .few);
-      apart = λ j k l m e.
-          let q = word-injective w (getD reads (getD sources j 0) 0) (getD reads (getD sources k 0) 0) (getD sources j 0) (getD sources k 0)
-          (bank j l .0) (bank k m .0) e in
-          sym (bank j l .1) ∙ ap (carriedTo n w file t) (q .1) ∙ bank k m .1;
-      apart′ = λ j k l m e. word-injective w (getD writes j 0) (getD writes k 0) j k l m e .1;
-    }
 
     pub gather-more : {places′ words′ : List ℕ} → Marked reads sources writes w w places words places′ words′ → Gather n w file (t + 1) places′ words′
     unfolding source target
@@ -227,7 +206,7 @@ module _ {n w : ℕ} {file : List ℕ} {t : ℕ} {places words reads sources wri
       ];
       worded = λ s b l m. elim (decLt s t) [
         | yes q ↦
-            let k = before-carried s q b m in
+            let k = before-carried D G s q b m in
             M .kept′ (writeAddress n w file s (carriedTo n w file s b) * w + carriedTo n w file s b)
             (λ j lj e. fresh-write s (carriedTo n w file s b) q k
             (sym (place-apart j (writeAddress n w file s (carriedTo n w file s b)) (carriedTo n w file s b) lj k e .0)))

@@ -1,7 +1,7 @@
 -- The loops of reading: the search for a faulty address, the marks of one line, and the images that are written.
 use Prim.Native.Nat.{ℕ, _+_, _*_, _<_, _≤_}
 use mathlib.Core.Path.{_≡_, refl, sym, ap, _∙_}
-use mathlib.Core.Bool.{Bool, true, false, not}
+use mathlib.Core.Bool.{true, false, not}
 use mathlib.Core.List.{List}
 use native.Mathlib.Omega.{arith}
 use native.Mathlib.Decide.{ℕ-discrete}
@@ -15,16 +15,8 @@ use Rattle.laws.specs.Any.{any}
 use Rattle.laws.proofs.Choices.{choose-yes, choose-no}
 use Rattle.laws.proofs.Anys.{any-some, any-none}
 use Rattle.laws.proofs.Tabulates.{stored-turn}
-use Rattle.reading.specs.inner.Gathering.{faulty, wordAt, placeAt, Markable, Marked}
-
--- the test of bank b
-abbrev pub faultAt : List ℕ → List ℕ → ℕ → ℕ → ℕ → Bool
-faultAt addresses marks w c b = choose (leb c (getD addresses b 0)) true (not (eqb (getD marks (getD addresses b 0 * w + b) 0) noWord))
-
--- no bank below b is faulty
-pub record Sound (addresses marks : List ℕ) (w c b : ℕ) : Type 0 where
-  pub upto : b ≤ w
-  pub none : (i : ℕ) → i < b → faultAt addresses marks w c i ≡ false
+use Rattle.reading.specs.inner.Gathering.{faultAt, faulty, wordAt, placeAt, Marked}
+use Rattle.reading.specs.inner.Rows.{Sound}
 
 module _ (addresses marks : List ℕ) (w c : ℕ) where
   pub sound-none : Sound addresses marks w c 0
@@ -67,20 +59,19 @@ marked-none reads sources writes w places words = record {
   kept′ = λ i f. refl;
 }
 
--- one bank more
-pub marked-more : {reads sources writes places₀ words₀ places words : List ℕ} {w k : ℕ} → Markable reads sources writes places₀ words₀ w → k < w
+-- one bank more, whose word and place are none of those before it
+pub marked-more : {reads sources writes places₀ words₀ places words : List ℕ} (w k : ℕ)
+    → wordAt reads sources w k < length places → placeAt writes w k < length words
+    → ((j : ℕ) → j < k → wordAt reads sources w j ≡ wordAt reads sources w k → ⊥)
+    → ((j : ℕ) → j < k → placeAt writes w j ≡ placeAt writes w k → ⊥)
     → Marked reads sources writes w k places₀ words₀ places words
     → Marked reads sources writes w (k + 1) places₀ words₀ (set places (wordAt reads sources w k) (placeAt writes w k))
     (set words (placeAt writes w k) (wordAt reads sources w k))
-marked-more {reads} {sources} {writes} {places₀} {words₀} {places} {words} {w} {k} A l M = record {
+marked-more {reads} {sources} {writes} {places₀} {words₀} {places} {words} w k inside inside′ apart apart′ M = record {
   long = length-set places _ _ ∙ M .long;
   long′ = length-set words _ _ ∙ M .long′;
-  placed = stored-turn places (wordAt reads sources w) (placeAt writes w) k (placeAt writes w k) 0 (omega (arith, A .words-inside k l, M .long))
-      (λ j m e. omega (arith, A .apart j k (omega arith) l e)) refl (M .placed);
-  worded =
-      stored-turn words (placeAt writes w) (wordAt reads sources w) k (wordAt reads sources w k) 0
-      (omega (arith, A .places-inside k l, M .long′))
-      (λ j m e. omega (arith, A .apart′ j k (omega arith) l e)) refl (M .worded);
+  placed = stored-turn places (wordAt reads sources w) (placeAt writes w) k (placeAt writes w k) 0 inside apart refl (M .placed);
+  worded = stored-turn words (placeAt writes w) (wordAt reads sources w) k (wordAt reads sources w k) 0 inside′ apart′ refl (M .worded);
   kept = λ i f. getD-set-other places (wordAt reads sources w k) i _ 0 (λ e. f k (omega arith) (sym e)) ∙ M .kept i (λ j m. f j (omega arith));
   kept′ = λ i f. getD-set-other words (placeAt writes w k) i _ 0 (λ e. f k (omega arith) (sym e)) ∙ M .kept′ i (λ j m. f j (omega arith));
 }

@@ -2,20 +2,24 @@
 // call's own, and written after the last line.
 ghost use mathlib.Core.Path.{_≡_};
 ghost use mathlib.Core.List.{List};
-ghost use Prim.Native.Nat.{ℕ, _+_, _*_, _<_, _≤_};
+ghost use Prim.Native.Nat.{ℕ, _*_, _<_, _≤_};
 ghost use lib.ListN.{length, getD};
-ghost use Rattle.limits.specs.Limits.{mostWords, shortWords, mostWidth};
+ghost use Rattle.limits.specs.Limits.{mostWords, shortWords, mostWidth, mostSwitches};
 ghost use Rattle.laws.specs.Permutation.{inverse};
 ghost use Rattle.laws.specs.Tabulate.{overwrite};
-ghost use Rattle.tables.specs.Terms.{cycles};
-ghost use Rattle.tables.specs.Format.{Shaped};
-ghost use Rattle.tables.specs.inner.Lines.{Line};
+ghost use Rattle.bits.specs.inner.Taking.{Room, WithZeros};
+ghost use Rattle.tables.specs.Terms.{lineBits};
+ghost use Rattle.tables.specs.Format.{Shaped, lineAt};
 ghost use Rattle.reading.specs.Reading.{contentsOf, readOutcome, readScan, readLines, readOf};
 ghost use Rattle.reading.specs.declared.Contents.{Contents};
 ghost use Rattle.reading.specs.declared.Reading.the-variants.{Read};
-ghost use Rattle.reading.specs.inner.Gathering.{faulty, Unmarked, Gather, Gathers, Passes, GathersAll, Markable, Marked};
+ghost use Rattle.reading.specs.inner.Gathering.{Unmarked, Gather, Gathers, Passes, GathersAll};
 use crate::Contents;
 use crate::Reading;
+use crate::rows::Row;
+use crate::rows::take_reads;
+use crate::rows::take_writes;
+use bits::Cursor;
 use limits::MOST_SWITCHES;
 use limits::MOST_WIDTH;
 use limits::MOST_WORDS;
@@ -26,13 +30,13 @@ use tables::Opened;
 use tables::Pass;
 use tables::Shape;
 use tables::cursor_at;
-use tables::line_at;
 use tables::open;
+use tables::sources;
 use tables::spare_used;
 
-// What the tests of a line say.
+// What the tests of a line say, with what the line leaves beside the marks.
 enum Tested {
-    Passed,
+    Passed(Pass),
     Refused(Refusal),
 }
 
@@ -42,79 +46,44 @@ enum Gathered {
     Refused(Refusal),
 }
 
-// Whether an address of a bank is outside the frame, or its word or place is marked.
-fn fault(addresses: &[u16], marks: &[u16], width: usize, cycles: usize) -> bool
-    requires { ⌜ (width ≤ length (now addresses)) × (width ≤ mostWidth) × (cycles * width ≤ length (now marks)) ⌝ }
-    ensures { λ r. ⌜ r ≡ faulty (now (addresses .entry)) (now (marks .entry)) width cycles ⌝ }
-{
-    let mut b = 0;
-    while b < width {
-        let address = addresses[b] as usize;
-        if cycles <= address {
-            return true;
-        }
-        if marks[address * width + b] != NO_WORD {
-            return true;
-        }
-        b += 1;
-    }
-    false
-}
-
-// The words that a line takes, with their places: word and place are marked with each other.
-fn mark<'a>(
-    reads: &'a [u16],
-    sources: &'a [u8],
-    writes: &'a [u16],
-    places: &mut [u16],
-    words: &mut [u16],
-    width: usize,
-)
-    requires { ⌜ Markable (now reads) (now sources) (now writes) (now places) (now words) width ⌝ }
-    ensures { λ _. ⌜ Marked (now (reads .entry)) (now (sources .entry)) (now (writes .entry)) width width (now (places .entry))
-        (now (words .entry)) (now (places .exit)) (now (words .exit)) ⌝ }
-{
-    let mut k = 0;
-    while k < width {
-        let b = sources[k] as usize;
-        let word = reads[b] as usize * width + b;
-        let place = writes[k] as usize * width + k;
-        places[word] = place as u16;
-        words[place] = word as u16;
-        k += 1;
-    }
-}
-
-// Line t, of which the caller has read what it does: its words and their places are marked, if it passes the tests. It says the same of every
-// file of which these are the line's moves.
-fn gather_line<'a>(
+// Line t, which begins at the cursor: 9, 10 and 11, and its words and their places are marked with each other. It says the same of every file that
+// these bytes read as. The bytes are at least eight.
+fn gather_line(
+    bytes: &[u8],
+    cursor: Cursor,
     shape: Shape,
     t: usize,
-    reads: &'a [u16],
-    sources: &'a [u8],
-    writes: &'a [u16],
+    setting: &mut [u8],
+    reads: &mut [u16],
+    standing: &mut [u8],
     places: &mut [u16],
     words: &mut [u16],
 ) -> Tested
-    requires { ⌜ Shaped shape ⌝ }
-    requires { ⌜ ((file : List ℕ) × Line (shape .words) (shape .width) file t (now reads) (now sources) (now writes)
-        × Gather (shape .words) (shape .width) file t (now places) (now words)) ⌝ }
-    ensures { λ r. ⌜ ((file : List ℕ)
-        → Line (shape .words) (shape .width) file t (now (reads .entry)) (now (sources .entry)) (now (writes .entry))
+    requires { ⌜ Shaped shape × Room cursor (lineBits (shape .words) (shape .width)) × (8 ≤ length (now bytes)) ⌝ }
+    requires { ⌜ (length (now setting) ≡ mostSwitches) × (length (now reads) ≡ mostWidth) × (length (now standing) ≡ mostWidth)
+        × (shape .words ≤ length (now places)) × (shape .words ≤ length (now words)) ⌝ }
+    requires { ⌜ cursor .at ≡ lineAt (shape .words) (shape .width) t ⌝ }
+    ensures { λ r. ⌜ ((file : List ℕ) → WithZeros file (now (bytes .entry))
         → Gather (shape .words) (shape .width) file t (now (places .entry)) (now (words .entry))
-        → Gathers (shape .words) (shape .width) file t r (now (places .exit)) (now (words .exit))) ⌝ }
+        → Gathers (shape .words) (shape .width) file t cursor r (now (places .exit)) (now (words .exit))) ⌝ }
 {
-    if fault(reads, places, shape.width, shape.cycles) {
-        return Tested::Refused(Refusal::ReadAddress(t));
+    match take_reads(bytes, cursor, shape, places, reads) {
+        Row::Faulty => Tested::Refused(Refusal::ReadAddress(t)),
+        Row::Passed(next) => {
+            let carried = sources(bytes, next, shape.lines, shape.switches, setting, standing);
+            if spare_used(standing, shape.width, shape.lines) {
+                return Tested::Refused(Refusal::SpareLine(t));
+            }
+            let behind = carried.cursor;
+            match take_writes(bytes, behind, shape, reads, standing, places, words) {
+                Row::Faulty => Tested::Refused(Refusal::WriteAddress(t)),
+                Row::Passed(end) => Tested::Passed(Pass {
+                    cursor: end,
+                    crossed: carried.crossed,
+                }),
+            }
+        }
     }
-    if spare_used(sources, shape.width, shape.lines) {
-        return Tested::Refused(Refusal::SpareLine(t));
-    }
-    if fault(writes, words, shape.width, shape.cycles) {
-        return Tested::Refused(Refusal::WriteAddress(t));
-    }
-    mark(reads, sources, writes, places, words, shape.width);
-    Tested::Passed
 }
 
 // The place of each word and the word of each place, over all lines. The arrays hold no marks at first.
@@ -123,31 +92,35 @@ fn gather(file: &[u8], shape: Shape, places: &mut [u16], words: &mut [u16]) -> G
     requires { ⌜ Gather (shape .words) (shape .width) (now file) 0 (now places) (now words) ⌝ }
     ensures { λ r. ⌜ GathersAll (shape .words) (shape .width) (now (file .entry)) r (now (places .exit)) (now (words .exit)) ⌝ }
 {
+    let replacement = bits::padded(file);
+    let bytes = bits::long_enough(file, &replacement);
     let cycles = shape.cycles;
     let mut setting = [0u8; MOST_SWITCHES];
     let mut reads = [0u16; MOST_WIDTH];
     let mut standing = [0u8; MOST_WIDTH];
-    let mut writes = [0u16; MOST_WIDTH];
     let mut cursor = cursor_at(shape, 0);
     let mut crossed = 0;
     let mut t = 0;
     while t < cycles {
-        let line = line_at(
-            file,
-            shape,
+        let tested = gather_line(
+            bytes,
             cursor,
+            shape,
+            t,
             &mut setting,
             &mut reads,
             &mut standing,
-            &mut writes,
+            places,
+            words,
         );
-        let tested = gather_line(shape, t, &reads, &standing, &writes, places, words);
-        if let Tested::Refused(refusal) = tested {
-            return Gathered::Refused(refusal);
+        match tested {
+            Tested::Refused(refusal) => return Gathered::Refused(refusal),
+            Tested::Passed(line) => {
+                cursor = line.cursor;
+                crossed += line.crossed;
+                t += 1;
+            }
         }
-        cursor = line.cursor;
-        crossed += line.crossed;
-        t += 1;
     }
     Gathered::All(Pass { cursor, crossed })
 }

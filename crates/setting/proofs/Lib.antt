@@ -4,4 +4,5 @@ pub mod Painting
 -- What the code does, over the lists that it holds.
 pub mod Wires
 pub mod Outers
+pub mod Fours
 pub mod Fronts

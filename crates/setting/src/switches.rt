@@ -3,8 +3,10 @@ ghost use mathlib.Core.Path.{_≡_};
 ghost use Prim.Native.Nat.{ℕ, _+_, _*_, _-_, _/_, _%_, _<_, _≤_};
 ghost use lib.ListN.{length, getD};
 ghost use Rattle.limits.specs.Limits.{mostWidth, mostInner};
+ghost use Rattle.laws.specs.Permutation.{Permutes};
 ghost use Rattle.network.specs.Setting.{setting, chosen};
 ghost use Rattle.network.specs.inner.Sizes.{Sized};
+ghost use Rattle.setting.specs.inner.Four.{codeOf, coded, bitsOf};
 ghost use Rattle.setting.specs.inner.Steps.{startAt, Inverses, InputsSet, Wirable, OutputsSet, Outer, InnerPair};
 use limits::MOST_INNER;
 use limits::MOST_WIDTH;
@@ -139,6 +141,64 @@ fn set_outer(
     set_outputs(&half, back, bits, from, upperback, lowerback);
 }
 
+// The code of a permutation of four lines: the images of its first three lines, as digits to the base 4.
+fn code_of(forward: &[u8]) -> usize
+    requires { ⌜ length (now forward) ≡ 4 ⌝ }
+    requires { ⌜ Permutes 4 (λ i. getD (now forward) i 0) ⌝ }
+    ensures { λ r. ⌜ r ≡ codeOf (λ i. getD (now (forward .entry)) i 0) ⌝ }
+{
+    wide(forward[0]) + 4 * wide(forward[1]) + 16 * wide(forward[2])
+}
+
+// The five bits of the setting of four lines, as one number. 24 of the 64 codes are a permutation's, and the last arm is never taken. The
+// match is compiled to one load from a table.
+fn setting_of_four(code: usize) -> u8
+    requires { ⌜ Permutes 4 (coded code) ⌝ }
+    ensures { λ r. ⌜ bitsOf r ≡ setting 2 (coded code) ⌝ }
+{
+    match code {
+        6 => 4,
+        7 => 27,
+        9 => 20,
+        11 => 22,
+        13 => 11,
+        14 => 6,
+        18 => 5,
+        19 => 26,
+        24 => 21,
+        27 => 23,
+        28 => 10,
+        30 => 7,
+        33 => 1,
+        35 => 18,
+        36 => 0,
+        39 => 19,
+        44 => 2,
+        45 => 3,
+        49 => 9,
+        50 => 13,
+        52 => 8,
+        54 => 12,
+        56 => 29,
+        57 => 28,
+        _ => 0,
+    }
+}
+
+// The bits of a network of four lines, from the table.
+fn set_four(forward: &[u8], bits: &mut [u8])
+    requires { ⌜ (length (now forward) ≡ 4) × (length (now bits) ≡ 5) ⌝ }
+    requires { ⌜ Permutes 4 (λ i. getD (now forward) i 0) ⌝ }
+    ensures { λ _. ⌜ now (bits .exit) ≡ setting 2 (λ i. getD (now (forward .entry)) i 0) ⌝ }
+{
+    let setting = setting_of_four(code_of(forward));
+    bits[0] = setting / 16;
+    bits[1] = setting / 8 % 2;
+    bits[2] = setting / 4 % 2;
+    bits[3] = setting / 2 % 2;
+    bits[4] = setting % 2;
+}
+
 // The bits of a network for the permutation `forward`, whose inverse is `back`. The width halves from call to call.
 // Only our own crates call it, with as many bits as the network has.
 pub fn set_bits(forward: &[u8], back: &[u8], bits: &mut [u8])
@@ -155,6 +215,11 @@ pub fn set_bits(forward: &[u8], back: &[u8], bits: &mut [u8])
     // Two lines are one switch, crossed where line 0 leaves last.
     if width == 2 {
         bits[0] = forward[0];
+        return;
+    }
+    // Four lines have few enough permutations to list their settings.
+    if width == 4 {
+        set_four(forward, bits);
         return;
     }
     let m = width / 2;

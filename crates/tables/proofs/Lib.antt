@@ -26,6 +26,7 @@ pub mod FirstTests
 pub mod Opens
 pub mod Cursors
 pub mod Scans
+pub mod Puts
 pub mod Passes
 pub mod Lined
 pub mod Crossings

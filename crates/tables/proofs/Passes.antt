@@ -3,14 +3,12 @@
 use Prim.Native.Nat.{ℕ, zero, suc, _+_, _*_, _-_, _%_, _^_, _<_, _≤_}
 use mathlib.Core.Path.{_≡_, refl, sym, ap, _∙_}
 use mathlib.Core.List.{List, _++_}
-use native.Mathlib.Nat.{zero-add}
 use native.Mathlib.Omega.{arith}
 use lib.ListN.{length, getD, set, take, drop, length-append, length-drop, length-set, List·getD-append}
 use lib.Pow.{pow-pos}
 use lib.Seq.{length-take-le, getD-take, getD-set-same, getD-set-other}
 use Rattle.limits.specs.Limits.{mostWidth, mostSwitches}
-use Rattle.laws.specs.Sum.{sum, is, hits}
-use Rattle.laws.proofs.Sums.{is-bit}
+use Rattle.laws.specs.Sum.{hits}
 use Rattle.bits.specs.Bits.{bit}
 use Rattle.bits.specs.Reading.{onward}
 use Rattle.bits.specs.inner.Taking.{WithZeros}
@@ -94,11 +92,6 @@ sources-switched (suc zero) {at} file standing b S e same long = record {
 }
 sources-switched (suc (suc d)) file standing b S e same long = absurd (omega (arith, S .1, pow-pos d))
 
--- and the ones among one bit are the bit
-pub one-counted : (f : ℕ → ℕ) {count : ℕ} → count ≡ 1 → f 0 < 2 → f 0 ≡ hits count f 1
-unfolding hits sum
-one-counted f e l = sym (ap (λ (k : ℕ). hits k f 1) e ∙ zero-add (is (f 0) 1) ∙ is-bit (f 0) l)
-
 -- ---- a line's parts
 
 -- the parts of a line keep the limits of what reads them, and are what the line has
@@ -149,12 +142,12 @@ module _ {file longer : List ℕ} (Z : WithZeros file longer) where
   addresses-zeros : {at address count : ℕ} {found : List ℕ} → Addresses longer at address count found → Addresses file at address count found
   addresses-zeros {at} {address} A = record { long = A .long; each = λ b l. A .each b l ∙ field-zeros Z (at + b * address) address }
 
-  crossings-zeros : (n w t : ℕ) → lineCrossings n w longer t ≡ lineCrossings n w file t
+  pub crossings-zeros : (n w t : ℕ) → lineCrossings n w longer t ≡ lineCrossings n w file t
   unfolding lineCrossings switchBit
   crossings-zeros n w t =
       crossings-ext (depth w) (switchBit n w longer t) (switchBit n w file t) (λ i l. bit-zeros Z (lineAt n w t + addressRow n w + i))
 
-  sources-zeros : {d at : ℕ} {found : List ℕ} → Sources d longer at found → Sources d file at found
+  pub sources-zeros : {d at : ℕ} {found : List ℕ} → Sources d longer at found → Sources d file at found
   sources-zeros {d} {at} {found} S = record {
     long = S .long;
     each = λ x l.

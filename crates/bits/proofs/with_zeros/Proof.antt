@@ -72,7 +72,7 @@ returns c =
     let all : l .i ≡ 8 = omega (arith, l .inv .0, c .loop-test .left) in
     let F = l .inv .1 in
     record {
-      long = F .long;
+      long = omega (arith, F .long);
       same = λ i. elim (decLt i 8) [
         | yes m ↦ F .filled i (omega arith) ∙ ap (λ (x : ℕ). placed x i) (called .short-number .ensures) ∙ placed-byte bytes i m
         | no m ↦

@@ -1,5 +1,5 @@
 -- What taking a field needs: how wide it may be, room in the cursor, and eight bytes; and what it gives where the bytes stand beside the cursor.
-use Prim.Native.Nat.{ℕ, _+_, _^_, _<_}
+use Prim.Native.Nat.{ℕ, _+_, _^_, _<_, _≤_}
 use mathlib.Core.Path.{_≡_}
 use mathlib.Core.List.{List}
 use lib.ListN.{length, getD}
@@ -21,7 +21,7 @@ pub record Room (cursor : Cursor) (w : ℕ) : Type 0 where
 abbrev pub fieldBehind : List ℕ → Cursor → ℕ → Field
 fieldBehind bytes cursor w = record { value = field bytes (cursor .at) w; rest = onward cursor w }
 
--- Eight bytes that read as a shorter list does: its own, and zeros behind them.
+-- At least eight bytes that read as a list does: its own, and zeros behind them where it is shorter.
 pub record WithZeros (bytes longer : List ℕ) : Type 0 where
-  pub long : length longer ≡ 8
+  pub long : 8 ≤ length longer
   pub same : (i : ℕ) → getD longer i 0 ≡ getD bytes i 0

@@ -4,6 +4,7 @@ use mathlib.Core.Path.{_≡_}
 use mathlib.Core.List.{List}
 use lib.ListN.{length, getD}
 use Rattle.limits.specs.Limits.{mostWidth, mostInner}
+use Rattle.laws.specs.Choice.{ifEq}
 use Rattle.network.specs.Network.{exit, leaves}
 
 -- what half h takes in at the first n input switches: what stands on the line that goes to that half
@@ -24,9 +25,12 @@ pub record Givable (bits : List ℕ) (from : ℕ) (upper lower lines : List ℕ)
   pub above : length upper ≡ mostInner
   pub beneath : length lower ≡ mostInner
 
--- a switch with this bit carried what stood on its two lines
-pub record Switched (bit : ℕ) (before after : List ℕ) : Type 0 where
-  pub moved : (x : ℕ) → x < 2 → getD after ((x + bit) % 2) 0 ≡ getD before x 0
+-- a switch with this bit carried what stood on two of the lines: straight (0), each stays where it is; the other lines stayed
+pub record Switched (bit one other : ℕ) (before after : List ℕ) : Type 0 where
+  pub long : length after ≡ length before
+  pub first : getD after one 0 ≡ ifEq (bit % 2) 0 (getD before one 0) (getD before other 0)
+  pub second : getD after other 0 ≡ ifEq (bit % 2) 0 (getD before other 0) (getD before one 0)
+  pub stayed : (x : ℕ) → (x ≡ one → ⊥) → (x ≡ other → ⊥) → getD after x 0 ≡ getD before x 0
 
 -- what stood on line x before a pass stands on the line to which x is carried
 pub record Routed (d : ℕ) (bits before after : List ℕ) : Type 0 where

@@ -6,14 +6,14 @@ use mathlib.Core.Bool.{Bool, true, false, not}
 use mathlib.Core.List.{List}
 use lib.Dec.{leb, eqb}
 use lib.ListN.{length, getD}
-use Rattle.limits.specs.Limits.{mostWords, mostWidth, noWord}
+use Rattle.limits.specs.Limits.{noWord}
 use Rattle.laws.specs.Choice.{choose}
 use Rattle.laws.specs.Any.{any}
 use Rattle.refusal.specs.declared.Refusal.{Refusal}
 use Rattle.bits.specs.Reading.{onward}
 use Rattle.bits.specs.declared.reader.Cursor.{Cursor}
 use Rattle.tables.specs.Terms.{cycles, lineBits}
-use Rattle.tables.specs.Format.{cursorAt, readAddress, setCrossings, writeAddress}
+use Rattle.tables.specs.Format.{cursorAt, lineCrossings, readAddress, setCrossings, writeAddress}
 use Rattle.tables.specs.declared.Pass.{Pass}
 use Rattle.tables.specs.Datapath.{carryStrays, source, target}
 use Rattle.reading.specs.Reading.{ReadOutcome, readFault, writeFault, scanLines}
@@ -26,10 +26,13 @@ use Rattle.reading.specs.declared.gathering.Gathered.the-variants.{All, 
 abbrev pub behindLines : ℕ → ℕ → ℕ → Cursor
 behindLines n w t = onward (cursorAt n w 0) (t * lineBits n w)
 
--- an address of a bank is outside the frame, or its word or place is marked
+-- the address of bank b is outside the frame, or its word or place is marked
+abbrev pub faultAt : List ℕ → List ℕ → ℕ → ℕ → ℕ → Bool
+faultAt addresses marks w c b = choose (leb c (getD addresses b 0)) true (not (eqb (getD marks (getD addresses b 0 * w + b) 0) noWord))
+
+-- the address of a bank is so
 unfoldable pub faulty : List ℕ → List ℕ → ℕ → ℕ → Bool
-faulty addresses marks w c =
-    any w (λ b. choose (leb c (getD addresses b 0)) true (not (eqb (getD marks (getD addresses b 0 * w + b) 0) noWord)))
+faulty addresses marks w c = any w (faultAt addresses marks w c)
 
 -- an array with room for a frame of n words, and no marks there
 pub record Unmarked (n : ℕ) (marks : List ℕ) : Type 0 where
@@ -46,10 +49,11 @@ pub record Gather (n w : ℕ) (file : List ℕ) (t : ℕ) (places words : List �
   pub unread : (a b : ℕ) → a < cycles n w → b < w → ((s : ℕ) → s < t → readAddress n w file s b ≡ a → ⊥) → getD places (a * w + b) 0 ≡ noWord
   pub untaken : (a k : ℕ) → a < cycles n w → k < w → ((s : ℕ) → s < t → writeAddress n w file s k ≡ a → ⊥) → getD words (a * w + k) 0 ≡ noWord
 
--- what the answer to one line says: it passed, or the scan of the lines stops there
-abbrev pub Gathers : ℕ → ℕ → List ℕ → ℕ → Tested → List ℕ → List ℕ → Type 0
-Gathers n w file t Passed places words = Gather n w file (t + 1) places words
-Gathers n w file t (Turned r) places words =
+-- what the answer to line t says, which begins at the cursor: it passed, or the scan of the lines stops there
+abbrev pub Gathers : ℕ → ℕ → List ℕ → ℕ → Cursor → Tested → List ℕ → List ℕ → Type 0
+Gathers n w file t cursor (Passed pass) places words =
+    (pass .cursor ≡ onward cursor (lineBits n w)) × (pass .crossed ≡ lineCrossings n w file t) × Gather n w file (t + 1) places words
+Gathers n w file t cursor (Turned r) places words =
     (k : ℕ) (refused : Refusal → ReadOutcome) (next : ReadOutcome) → scanLines n w file (suc k) t refused next ≡ refused r
 
 -- what a pass over all lines leaves beside the marks
@@ -69,20 +73,6 @@ wordAt reads sources w k = getD reads (getD sources k 0) 0 * w + getD sources k 
 
 abbrev pub placeAt : List ℕ → ℕ → ℕ → ℕ
 placeAt writes w k = getD writes k 0 * w + k
-
--- a line whose words and places can be marked: they are in the arrays, and different banks send different words
-pub record Markable (reads sources writes places words : List ℕ) (w : ℕ) : Type 0 where
-  pub few : w ≤ mostWidth
-  pub reads-long : length reads ≡ mostWidth
-  pub sources-long : length sources ≡ mostWidth
-  pub writes-long : length writes ≡ mostWidth
-  pub banks : (k : ℕ) → k < w → getD sources k 0 < w
-  pub words-inside : (k : ℕ) → k < w → wordAt reads sources w k < length places
-  pub places-inside : (k : ℕ) → k < w → placeAt writes w k < length words
-  pub words-below : (k : ℕ) → k < w → wordAt reads sources w k < mostWords
-  pub places-below : (k : ℕ) → k < w → placeAt writes w k < mostWords
-  pub apart : (j k : ℕ) → j < w → k < w → wordAt reads sources w j ≡ wordAt reads sources w k → j ≡ k
-  pub apart′ : (j k : ℕ) → j < w → k < w → placeAt writes w j ≡ placeAt writes w k → j ≡ k
 
 -- the first j banks' words and places are marked with each other, and all else is as it was
 pub record Marked (reads sources writes : List ℕ) (w j : ℕ) (places₀ words₀ places words : List ℕ) : Type 0 where

@@ -1,5 +1,5 @@
 -- What the code takes from the lines of a set. Only contracts of our own crates cite these.
-use Prim.Native.Nat.{ℕ, suc, _+_, _*_, _-_, _^_, _<_}
+use Prim.Native.Nat.{ℕ, zero, suc, _+_, _*_, _-_, _/_, _%_, _^_, _<_}
 use mathlib.Core.Path.{_≡_}
 use mathlib.Core.Bool.{Bool}
 use mathlib.Core.List.{List}
@@ -7,6 +7,7 @@ use lib.Dec.{ltb}
 use lib.ListN.{length, getD}
 use Rattle.limits.specs.Limits.{mostWidth, mostSwitches}
 use Rattle.laws.specs.Any.{any}
+use Rattle.laws.specs.Tabulate.{tabulate}
 use Rattle.bits.specs.Bits.{digit, bit, field}
 use Rattle.bits.specs.Reading.{onward}
 use Rattle.bits.specs.declared.reader.Cursor.{Cursor}
@@ -20,11 +21,28 @@ pub record Addresses (file : List ℕ) (at address count : ℕ) (found : List �
   pub long : length found ≡ mostWidth
   pub each : (b : ℕ) → b < count → getD found b 0 ≡ field file (at + b * address) address
 
--- the k binary digits of a number stand from place `from` on, the highest first, and what lies before them is as it was
-pub record Spread (number k from : ℕ) (before after : List ℕ) : Type 0 where
+-- the same addresses as a list
+abbrev pub rowAt : List ℕ → ℕ → ℕ → List ℕ
+rowAt file at address = tabulate mostWidth (λ b. field file (at + b * address) address)
+
+-- byte j of a number, the lowest first
+abbrev pub byteOf : ℕ → ℕ → ℕ
+byteOf number j = number / 2 ^ (8 * j) % 256
+
+-- the number whose first k bytes are f's
+unfoldable pub bytesOf : ℕ → (ℕ → ℕ) → ℕ
+bytesOf zero f = 0
+bytesOf (suc k) f = f 0 + 256 * bytesOf k (λ j. f (suc j))
+
+-- the first k values of f stand from place `from` on, and what lies before them is as it was
+pub record Put (f : ℕ → ℕ) (k from : ℕ) (before after : List ℕ) : Type 0 where
   pub long : length after ≡ length before
-  pub here : (j : ℕ) → j < k → getD after (from + j) 0 ≡ digit number (k - suc j)
+  pub here : (j : ℕ) → j < k → getD after (from + j) 0 ≡ f j
   pub below : (i : ℕ) → i < from → getD after i 0 ≡ getD before i 0
+
+-- the same of the k binary digits of a number, the highest first
+abbrev pub Spread : ℕ → ℕ → ℕ → List ℕ → List ℕ → Type 0
+Spread number k from before after = Put (λ j. digit number (k - suc j)) k from before after
 
 -- the switch bits that stand from bit `at` on
 pub record Switches (file : List ℕ) (at count : ℕ) (found : List ℕ) : Type 0 where

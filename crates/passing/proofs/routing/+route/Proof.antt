@@ -1,5 +1,5 @@
 -- `routing::route` meets its contract. Its measure is the width, and each call halves it: `parts` takes the network apart, and
--- `routed-more` puts what the two inner networks route together.
+-- `routed-more` puts what the two inner networks route together. One, two, four and eight lines end the recursion.
 use Prim.Native.Nat.{ℕ, _<_}
 use mathlib.Core.Path.{refl, sym, _∙_}
 use native.Mathlib.Omega.{arith}
@@ -7,11 +7,15 @@ use borrow.Author.Needs.{needs}
 use borrow.Fn.Kinds.{In}
 use borrow.Fn.PlainCycle.{Measures, is, falls, and}
 use lib.ListN.{length}
-use Rattle.passing.proofs.Routes.{RouteSplit, split, upper-sized, lower-sized, back-long, routed-one, routed-two, routed-more}
+use Rattle.network.specs.Network.{bitCount}
+use Rattle.passing.proofs.Routes.{RouteSplit, split, sized-depth, upper-sized, lower-sized, back-long, routed-more}
+use Rattle.passing.proofs.InPlace.{in-order, one-line, two-lines, routed}
 use Rattle.passing.proofs.routing.route.Reads as route
 use Rattle.passing.proofs.routing.route.Kinds as route-kinds
 use Rattle.passing.proofs.routing.+route.Lts-route as route-lts
 use Rattle.passing.proofs.routing.give_out.Reads as give-out-reads
+use Rattle.passing.proofs.routing.pass_eight.Reads as pass-eight-reads
+use Rattle.passing.proofs.routing.pass_four.Reads as pass-four-reads
 use Rattle.passing.proofs.routing.pass_switch.Reads as pass-switch-reads
 use Rattle.passing.proofs.routing.take_in.Reads as take-in-reads
 use Rattle.passing.proofs.routing.+route.{statement}
@@ -30,6 +34,10 @@ abbrev claims : ℕ → route-lts.Claims
 claims t = (
   pass-switch-reads.Asked,
   pass-switch-reads.Learnt,
+  pass-four-reads.Asked,
+  pass-four-reads.Learnt,
+  pass-eight-reads.Asked,
+  pass-eight-reads.Learnt,
   take-in-reads.Asked,
   take-in-reads.Learnt,
   route-below t,
@@ -60,7 +68,7 @@ module _ (t : ℕ) where
   start-split c = c .before .before .before
 
   abbrev split-took : TookIn → Split
-  split-took c = c .before .before .before .before .before
+  split-took c = c .before .before .before .before .before .before .before
 
   abbrev took-upper : UpperRouted → TookIn
   took-upper c = c .before .before .before
@@ -73,24 +81,48 @@ module _ (t : ℕ) where
   parts c = let s = start-split c in split _ _ _ (s .pre .1 .0 .1) (s .pre .1 .1) (c .if1 .left)
 
   returns : route-lts.Need-returns (claims t) (route-at t) route.Post
-  returns c = λ d s. routed-one d _ _ (c .if1 .taken) (s .0)
+  returns c = λ d s. rw (sized-depth 0 (c .if1 .taken) s .0) (routed one-line)
+
+  shared-slice-read-pass-switch : route-lts.Need-shared-slice-read-pass-switch (claims t) (route-at t) route.Post
+  shared-slice-read-pass-switch c = omega (arith, parts (c .before .before))
 
   pass-switch-requires : route-lts.Need-pass-switch-requires (claims t) (route-at t) route.Post
-  pass-switch-requires c κs = (c .before .if2 .taken, omega (arith, parts (c .before .before)))
+  pass-switch-requires c κs = search needs
 
   same-length : route-lts.Need-same-length (claims t) (route-at t) route.Post
   same-length c = search needs
 
   returns-2 : route-lts.Need-returns-2 (claims t) (route-at t) route.Post
   returns-2 c =
-      let pass = c .before .before .pass-switch in λ d s.
-      routed-two d _ _ _ (c .before .before .before .before .if2 .taken) (s .0) (pass .kept .1 .0) (pass .ensures)
+      let two = c .before .before .before .before .before .if2 .taken in λ d s.
+      rw (sized-depth 1 two s .0) (routed (two-lines in-order (c .before .before .pass-switch .ensures)))
+
+  pass-four-requires : route-lts.Need-pass-four-requires (claims t) (route-at t) route.Post
+  unfolding bitCount
+  pass-four-requires c κs = let four = c .before .if3 .taken in (four, sized-depth 2 four (start-split (c .before .before .before) .pre .1 .0 .1) .1)
+
+  same-length-2 : route-lts.Need-same-length-2 (claims t) (route-at t) route.Post
+  same-length-2 c = search needs
+
+  returns-3 : route-lts.Need-returns-3 (claims t) (route-at t) route.Post
+  returns-3 c = λ d s. rw (sized-depth 2 (c .before .before .before .before .if3 .taken) s .0) (c .before .before .pass-four .ensures)
+
+  pass-eight-requires : route-lts.Need-pass-eight-requires (claims t) (route-at t) route.Post
+  unfolding bitCount
+  pass-eight-requires c κs =
+      let eight = c .before .if4 .taken in (eight, sized-depth 3 eight (start-split (c .before .before .before .before) .pre .1 .0 .1) .1)
+
+  same-length-3 : route-lts.Need-same-length-3 (claims t) (route-at t) route.Post
+  same-length-3 c = search needs
+
+  returns-4 : route-lts.Need-returns-4 (claims t) (route-at t) route.Post
+  returns-4 c = λ d s. rw (sized-depth 3 (c .before .before .before .before .if4 .taken) s .0) (c .before .before .pass-eight .ensures)
 
   sub-inner : route-lts.Need-sub-inner (claims t) (route-at t) route.Post
-  sub-inner c = omega (arith, parts (c .before))
+  sub-inner c = omega (arith, parts (c .before .before .before))
 
   sub-inner-2 : route-lts.Need-sub-inner-2 (claims t) (route-at t) route.Post
-  sub-inner-2 c = omega (arith, parts (c .before))
+  sub-inner-2 c = omega (arith, parts (c .before .before .before))
 
   add-middle : route-lts.Need-add-middle (claims t) (route-at t) route.Post
   add-middle c = search needs
@@ -103,7 +135,7 @@ module _ (t : ℕ) where
 
   take-in-requires : route-lts.Need-take-in-requires (claims t) (route-at t) route.Post
   take-in-requires c κs =
-      let k : Split = c .before .before .before .before in
+      let k : Split = c .before .before .before .before .before .before in
       (start-split k .pre .1 .1, omega (arith, parts k), refl, refl)
 
   sub-route : route-lts.Need-sub-route (claims t) (route-at t) route.Post
@@ -173,11 +205,11 @@ module _ (t : ℕ) where
         beneath = back-long p (second .route2 .last .1 .0) (took .take-in .ensures .1) (second .route2 .kept .1 .0);
       }
 
-  same-length-2 : route-lts.Need-same-length-2 (claims t) (route-at t) route.Post
-  same-length-2 c = search needs
+  same-length-4 : route-lts.Need-same-length-4 (claims t) (route-at t) route.Post
+  same-length-4 c = search needs
 
-  returns-3 : route-lts.Need-returns-3 (claims t) (route-at t) route.Post
-  returns-3 c =
+  returns-5 : route-lts.Need-returns-5 (claims t) (route-at t) route.Post
+  returns-5 c =
       let second : LowerRouted = c .before .before .before .before .before .before .before in
       let first = upper-lower second in
       let took = took-upper first in
@@ -191,9 +223,16 @@ pub +route-spec : {M : Type 1} → statement M
     (route-at t)
     route.Post
     (returns t)
+    (shared-slice-read-pass-switch t)
     (pass-switch-requires t)
     (same-length t)
     (returns-2 t)
+    (pass-four-requires t)
+    (same-length-2 t)
+    (returns-3 t)
+    (pass-eight-requires t)
+    (same-length-3 t)
+    (returns-4 t)
     (sub-inner t)
     (sub-inner-2 t)
     (add-middle t)
@@ -213,5 +252,5 @@ pub +route-spec : {M : Type 1} → statement M
     (slice-aggregate-route-2 t)
     (route-requires-2 t)
     (give-out-requires t)
-    (same-length-2 t)
-    (returns-3 t)
+    (same-length-4 t)
+    (returns-5 t)

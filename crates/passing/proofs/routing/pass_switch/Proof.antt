@@ -1,17 +1,14 @@
--- `routing::pass_switch` meets its contract: the one store tells the even line and the other the odd line.
+-- `routing::pass_switch` meets its contract: the one store tells the first line of the switch and the other the second.
 use borrow.Author.Needs.{needs}
 use Rattle.passing.proofs.Routes.{switched}
 use Rattle.passing.proofs.routing.pass_switch.Statement.{statement}
 use Rattle.passing.proofs.routing.pass_switch.Tie as tie
 
-shared-slice-read-bit : tie.Need-shared-slice-read-bit
-shared-slice-read-bit c = search needs
+slice-read-above : tie.Need-slice-read-above
+slice-read-above c = search needs
 
-slice-read-even : tie.Need-slice-read-even
-slice-read-even c = search needs
-
-slice-read-odd : tie.Need-slice-read-odd
-slice-read-odd c = search needs
+slice-read-beneath : tie.Need-slice-read-beneath
+slice-read-beneath c = search needs
 
 leaving-requires : tie.Need-leaving-requires
 leaving-requires c κs = search needs
@@ -29,15 +26,14 @@ same-length : tie.Need-same-length
 same-length c = search needs
 
 returns : tie.Need-returns
-returns c = let s = c .before .before .before .before .before .before .before in switched (s .pre .0) (c .before .leaving .ensures) (c .leaving2 .ensures)
+returns c = let s = c .before .before .before .before .before in switched (s .pre .0) (s .pre .1) (c .before .leaving .ensures) (c .leaving2 .ensures)
 
 pub pass-switch-spec : {M : Type 1} → statement M
 pass-switch-spec =
     tie.close
     (tie.spec
-    shared-slice-read-bit
-    slice-read-even
-    slice-read-odd
+    slice-read-above
+    slice-read-beneath
     leaving-requires
     slice-write-lines
     leaving-requires-2

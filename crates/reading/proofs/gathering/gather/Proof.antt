@@ -12,9 +12,9 @@ use Rattle.bits.specs.Reading.{onward}
 use Rattle.bits.specs.declared.reader.Cursor.{Cursor}
 use Rattle.tables.specs.Terms.{cycles, lineBits}
 use Rattle.tables.specs.Format.{lineAt, lineCrossings}
-use Rattle.tables.specs.inner.Lines.{Line}
 use Rattle.reading.specs.inner.Gathering.{behindLines, Gathers}
 use Rattle.reading.specs.declared.gathering.Tested.{Tested}
+use Rattle.reading.specs.declared.gathering.Tested.the-variants.{Passed}
 use Rattle.tables.proofs.Dims.{cycles-positive, cycles-few}
 use Rattle.tables.proofs.Crossings.{crossings-fit}
 use Rattle.reading.proofs.Counts.{behind-stands, behind-none, behind-more, behind-room}
@@ -23,41 +23,34 @@ use Rattle.reading.proofs.gathering.gather.Statement.{statement}
 use Rattle.reading.proofs.gathering.gather.Tie as tie
 
 abbrev Inv-loop : tie.InvT-loop
-Inv-loop file shape places₀ words₀ cycles setting₀ reads₀ standing₀ writes₀ cursor₀ crossed₀ t₀ places words setting reads standing writes cursor crossed t =
+Inv-loop file shape places₀ words₀ bytes cycles setting₀ reads₀ standing₀ cursor₀ crossed₀ t₀ places words setting reads standing cursor crossed t =
     (Gathering (shape .words) (shape .width) file t places words × (cursor ≡ behindLines (shape .words) (shape .width) t)
     × (crossed ≡ sum t (lineCrossings (shape .words) (shape .width) file)))
-    × (length setting ≡ mostSwitches) × (length reads ≡ mostWidth) × (length standing ≡ mostWidth) × (length writes ≡ mostWidth)
+    × (length setting ≡ mostSwitches) × (length reads ≡ mostWidth) × (length standing ≡ mostWidth)
     × (length places ≡ length places₀) × (length words ≡ length words₀)
 
 abbrev μ-loop : tie.MeasureT-loop
-μ-loop file shape places₀ words₀ cycles setting₀ reads₀ standing₀ writes₀ cursor₀ crossed₀ t₀ places words setting reads standing writes cursor crossed t =
-    cycles - t
+μ-loop file shape places₀ words₀ bytes cycles setting₀ reads₀ standing₀ cursor₀ crossed₀ t₀ places words setting reads standing cursor crossed t = cycles - t
 
 -- ---- the places
 
+abbrev long : tie.At-loop Inv-loop μ-loop → tie.After-long-enough Inv-loop μ-loop
+long c = c .before .before
+
 abbrev start : tie.At-loop Inv-loop μ-loop → tie.Start Inv-loop μ-loop
-start c = c .before .before .before .before .before
-
-abbrev turn : tie.After-line-at Inv-loop μ-loop → tie.In-loop Inv-loop μ-loop
-turn c = c .before .before .before .before .before
-
-abbrev lent : tie.After-writes3 Inv-loop μ-loop → tie.After-line-at Inv-loop μ-loop
-lent c = c .before .before .before .before .before .before .before
-
-abbrev read : tie.After-gather-line Inv-loop μ-loop → tie.After-line-at Inv-loop μ-loop
-read c = lent (c .before .before .before)
+start c = long c .before .before .before .before .before .before
 
 abbrev test : tie.After-gather-line Inv-loop μ-loop → tie.In-loop Inv-loop μ-loop
-test c = turn (read c)
+test c = c .before .before .before .before .before .before
 
 abbrev line : tie.After-slice-known4 Inv-loop μ-loop → tie.After-gather-line Inv-loop μ-loop
-line c = c .before .before .before .before
+line c = c .before .before .before .before .before .before .before
 
 abbrev line-refused : tie.After-known-told Inv-loop μ-loop → tie.After-gather-line Inv-loop μ-loop
 line-refused c = line (c .before .before .before)
 
 abbrev line-passed : tie.After-struct-known Inv-loop μ-loop → tie.After-gather-line Inv-loop μ-loop
-line-passed c = line (c .before .before .before .before)
+line-passed c = line (c .before .before .before .before .before)
 
 -- ---- the facts
 
@@ -68,118 +61,102 @@ line-left : (c : tie.In-loop Inv-loop μ-loop)
 line-left c = let s = start (c .before) in rw (s .pre .0 .cycles) at (c .loop-test .taken)
 
 -- the cursor stands at line t
-stands : (c : tie.After-line-at Inv-loop μ-loop)
-    → let a = turn c .before in
-    let s = start a in
+stands : (a : tie.At-loop Inv-loop μ-loop)
+    → let s = start a in
     a .loop .cursor .at ≡ lineAt (s .args .shape .words) (s .args .shape .width) (a .loop .t)
-stands c = let a = turn c .before in ap (λ (x : Cursor). x .at) (a .loop .inv .0 .1) ∙ behind-stands _ _ (a .loop .t)
-
--- what line t does
-line-read : (c : tie.After-line-at Inv-loop μ-loop)
-    → let a = turn c .before in
-    let s = start a in
-    let last = c .line-at .last .1 .1 .1 .1 in
-    Line (s .args .shape .words) (s .args .shape .width) (s .args .file .now) (a .loop .t) (last .0) (last .1 .0) (last .1 .1 .0)
-line-read c =
-    let a = turn c .before in
-    c .line-at .ensures .line (a .loop .t) (stands c)
+stands a = ap (λ (x : Cursor). x .at) (a .loop .inv .0 .1) ∙ behind-stands _ _ (a .loop .t)
 
 -- what the tests of line t say, once their answer is known
 gathers : (c : tie.After-gather-line Inv-loop μ-loop) (g : Tested)
     → c .gather-line .result ≡ g
     → let a = test c .before in
     let s = start a in
-    let marks = c .gather-line .last .1 .1 .1 .1 .1 in
-    Gathers (s .args .shape .words) (s .args .shape .width) (s .args .file .now) (a .loop .t) g (marks .0) (marks .1 .0)
+    let marks = c .gather-line .last .1 .1 .1 .1 .1 .1 .1 in
+    Gathers (s .args .shape .words) (s .args .shape .width) (s .args .file .now) (a .loop .t) (a .loop .cursor) g (marks .0) (marks .1 .0)
 gathers c g e =
     let a = test c .before in
     let s = start a in
-    let marks = c .gather-line .last .1 .1 .1 .1 .1 in
+    let marks = c .gather-line .last .1 .1 .1 .1 .1 .1 .1 in
     let Ends : Tested → Type 0 =
-    λ g. Gathers (s .args .shape .words) (s .args .shape .width) (s .args .file .now) (a .loop .t) g (marks .0) (marks .1 .0) in
-    subst Ends e (c .gather-line .ensures (s .args .file .now) (line-read (read c)) (a .loop .inv .0 .0 .gathered))
+    λ g. Gathers (s .args .shape .words) (s .args .shape .width) (s .args .file .now) (a .loop .t) (a .loop .cursor) g (marks .0) (marks .1 .0) in
+    subst Ends e (c .gather-line .ensures (s .args .file .now) (long a .long-enough .ensures) (a .loop .inv .0 .0 .gathered))
+
+-- line t passed
+line-gathers : (c : tie.After-struct-known Inv-loop μ-loop)
+    → let d = line-passed c in
+    let a = test d .before in
+    let s = start a in
+    let marks = d .gather-line .last .1 .1 .1 .1 .1 .1 .1 in
+    Gathers (s .args .shape .words) (s .args .shape .width) (s .args .file .now) (a .loop .t) (a .loop .cursor)
+    (Passed (c .before .before .before .tested2 .given .0 .0)) (marks .0) (marks .1 .0)
+line-gathers c = gathers (line-passed c) _ (c .before .before .before .tested2 .given .1)
 
 -- the crossed switches of line t are added to those of the lines before it
 counted : (c : tie.After-struct-known Inv-loop μ-loop)
     → let a = test (line-passed c) .before in
     let s = start a in
     let crossings = lineCrossings (s .args .shape .words) (s .args .shape .width) (s .args .file .now) in
-    a .loop .crossed + read (line-passed c) .line-at .result .crossed ≡ sum (a .loop .t + 1) crossings
+    a .loop .crossed + c .before .before .before .tested2 .given .0 .0 .crossed ≡ sum (a .loop .t + 1) crossings
 unfolding sum
 counted c =
-    let r = read (line-passed c) in
-    let a = turn r .before in
-    rw add-one (ap₂ _+_ (a .loop .inv .0 .2) (r .line-at .ensures .counted (a .loop .t) (stands r)))
+    let a = test (line-passed c) .before in
+    rw add-one (ap₂ _+_ (a .loop .inv .0 .2) (line-gathers c .1))
+
+padded-requires : tie.Need-padded-requires Inv-loop μ-loop
+padded-requires c κs = search needs
+
+slice-aggregate-long-enough : tie.Need-slice-aggregate-long-enough Inv-loop μ-loop
+slice-aggregate-long-enough c = search needs
+
+long-enough-requires : tie.Need-long-enough-requires Inv-loop μ-loop
+long-enough-requires c κs = search needs
 
 cursor-at-requires : tie.Need-cursor-at-requires Inv-loop μ-loop
-cursor-at-requires c κs = let shaped = c .before .before .before .pre .0 in (shaped, cycles-positive (shaped .dims))
+cursor-at-requires c κs = let shaped = c .before .before .before .before .before .before .pre .0 in (shaped, cycles-positive (shaped .dims))
 
 loop-holds : tie.Need-loop-holds Inv-loop μ-loop
 unfolding sum
 loop-holds c =
     let wide = length-replicate {A = ℕ} mostWidth 0 in
-    let s = c .before .before .before .before in
+    let s = c .before .before .before .before .before .before .before in
     let first = c .cursor-at .ensures ∙ behind-none (s .args .shape .words) (s .args .shape .width) in
-    ((gathering-none (s .pre .1), first, refl), length-replicate {A = ℕ} mostSwitches 0, wide, wide, wide, refl, refl)
-
-slice-aggregate-line-at : tie.Need-slice-aggregate-line-at Inv-loop μ-loop
-slice-aggregate-line-at c = sym (c .before .before .loop .inv .1)
-
-slice-aggregate-line-at-2 : tie.Need-slice-aggregate-line-at-2 Inv-loop μ-loop
-slice-aggregate-line-at-2 c = sym (c .before .before .before .loop .inv .2)
-
-slice-aggregate-line-at-3 : tie.Need-slice-aggregate-line-at-3 Inv-loop μ-loop
-slice-aggregate-line-at-3 c = sym (c .before .before .before .before .loop .inv .3)
-
-slice-aggregate-line-at-4 : tie.Need-slice-aggregate-line-at-4 Inv-loop μ-loop
-slice-aggregate-line-at-4 c = sym (c .before .before .before .before .before .loop .inv .4)
-
-line-at-requires : tie.Need-line-at-requires Inv-loop μ-loop
-line-at-requires c κs =
-    let d = c .before .before .before .before in
-    let s = start (d .before) in
-    let held = d .before .loop .inv in
-    let room = behind-room (s .pre .0 .dims) (d .before .loop .t) (line-left d) in
-    ((s .pre .0, rw (held .0 .1) room), (held .1, held .2, held .3, held .4))
+    ((gathering-none (s .pre .1), first, refl), length-replicate {A = ℕ} mostSwitches 0, wide, wide, refl, refl)
 
 slice-aggregate-gather-line : tie.Need-slice-aggregate-gather-line Inv-loop μ-loop
-slice-aggregate-gather-line c = sym (line-read (c .before .before .before .before .before) .reading .long)
+slice-aggregate-gather-line c = sym (c .before .before .loop .inv .1)
 
 slice-aggregate-gather-line-2 : tie.Need-slice-aggregate-gather-line-2 Inv-loop μ-loop
-slice-aggregate-gather-line-2 c = sym (line-read (c .before .before .before .before .before .before) .carrying .long)
+slice-aggregate-gather-line-2 c = sym (c .before .before .before .loop .inv .2)
 
 slice-aggregate-gather-line-3 : tie.Need-slice-aggregate-gather-line-3 Inv-loop μ-loop
-slice-aggregate-gather-line-3 c = sym (line-read (c .before .before .before .before .before .before .before) .writing .long)
+slice-aggregate-gather-line-3 c = sym (c .before .before .before .before .loop .inv .3)
 
 gather-line-requires : tie.Need-gather-line-requires Inv-loop μ-loop
 gather-line-requires c κs =
-    let d = lent (c .before .before) in
-    let a = turn d .before in
+    let d = c .before .before .before .before .before in
+    let a = d .before in
     let s = start a in
-    (s .pre .0, (s .args .file .now, line-read d, a .loop .inv .0 .0 .gathered))
+    let held = a .loop .inv in
+    let G = held .0 .0 .gathered in
+    let room = behind-room (s .pre .0 .dims) (a .loop .t) (line-left d) in
+    ((s .pre .0, rw (held .0 .1) room, long a .long-enough .ensures .long), ((held .1, held .2, held .3, G .long, G .long′), stands a))
 
 enum-known-tested : tie.Need-enum-known-tested Inv-loop μ-loop
 enum-known-tested c = search needs
 
 same-length : tie.Need-same-length Inv-loop μ-loop
-same-length c =
-    let d = line-refused c in
-    let a = test d .before in
-    d .gather-line .kept .1 .1 .1 .1 .1 .0 ∙ a .loop .inv .5
+same-length c = let d = line-refused c in d .gather-line .kept .1 .1 .1 .1 .1 .1 .1 .0 ∙ test d .before .loop .inv .4
 
 same-length-2 : tie.Need-same-length-2 Inv-loop μ-loop
-same-length-2 c =
-    let d = line-refused c in
-    let a = test d .before in
-    d .gather-line .kept .1 .1 .1 .1 .1 .1 .0 ∙ a .loop .inv .6
+same-length-2 c = let d = line-refused c in d .gather-line .kept .1 .1 .1 .1 .1 .1 .1 .1 .0 ∙ test d .before .loop .inv .5
 
 returns : tie.Need-returns Inv-loop μ-loop
 returns c =
     let d = line-refused c in
     gathering-refused (test d .before .loop .inv .0 .0) (line-left (test d)) (gathers d _ (c .before .tested .given .1))
 
-enum-told : tie.Need-enum-told Inv-loop μ-loop
-enum-told c = search needs
+enum-known-tested-2 : tie.Need-enum-known-tested-2 Inv-loop μ-loop
+enum-known-tested-2 c = search needs
 
 add-crossed : tie.Need-add-crossed Inv-loop μ-loop
 add-crossed c =
@@ -199,29 +176,27 @@ loop-less c = omega (arith, test (line-passed c) .loop-test .taken)
 loop-again : tie.Need-loop-again Inv-loop μ-loop
 loop-again c =
     let d = line-passed c in
-    let r = read d in
     let a = test d .before in
     let s = start a in
     let n = s .args .shape .words in
     let w = s .args .shape .width in
     let held = a .loop .inv in
-    let kept = r .line-at .kept .1 .1 .1 in
-    let marks = d .gather-line .kept .1 .1 .1 .1 .1 in
-    let further = r .line-at .ensures .moved ∙ ap (λ (x : Cursor). onward x (lineBits n w)) (held .0 .1) ∙ behind-more n w (a .loop .t) in (
-      (gathering-more (held .0 .0) (line-left (test d)) (gathers d _ (c .before .before .enum-told .given .1)), further, counted c),
+    let kept = d .gather-line .kept .1 .1 .1 .1 in
+    let told = line-gathers c in
+    let further = told .0 ∙ ap (λ (x : Cursor). onward x (lineBits n w)) (held .0 .1) ∙ behind-more n w (a .loop .t) in (
+      (gathering-more (held .0 .0) (line-left (test d)) (told .2), further, counted c),
       kept .0 ∙ held .1,
       kept .1 .0 ∙ held .2,
       kept .1 .1 .0 ∙ held .3,
       kept .1 .1 .1 .0 ∙ held .4,
-      marks .0 ∙ held .5,
-      marks .1 .0 ∙ held .6,
+      kept .1 .1 .1 .1 .0 ∙ held .5,
     )
 
 same-length-3 : tie.Need-same-length-3 Inv-loop μ-loop
-same-length-3 c = c .before .loop .inv .5
+same-length-3 c = c .before .loop .inv .4
 
 same-length-4 : tie.Need-same-length-4 Inv-loop μ-loop
-same-length-4 c = c .before .loop .inv .6
+same-length-4 c = c .before .loop .inv .5
 
 returns-2 : tie.Need-returns-2 Inv-loop μ-loop
 returns-2 c =
@@ -242,13 +217,11 @@ gather-spec =
     (tie.spec
     Inv-loop
     μ-loop
+    padded-requires
+    slice-aggregate-long-enough
+    long-enough-requires
     cursor-at-requires
     loop-holds
-    slice-aggregate-line-at
-    slice-aggregate-line-at-2
-    slice-aggregate-line-at-3
-    slice-aggregate-line-at-4
-    line-at-requires
     slice-aggregate-gather-line
     slice-aggregate-gather-line-2
     slice-aggregate-gather-line-3
@@ -257,7 +230,7 @@ gather-spec =
     same-length
     same-length-2
     returns
-    enum-told
+    enum-known-tested-2
     add-crossed
     add-t
     loop-less

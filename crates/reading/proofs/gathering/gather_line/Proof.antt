@@ -1,121 +1,150 @@
--- `reading::gathering::gather_line` meets its contract: the three tests are those of the scan of any file that has this line, and a line that
--- passes is marked.
-use Prim.Native.Nat.{ℕ, _*_}
-use mathlib.Core.Path.{_≡_, sym, _∙_}
-use mathlib.Core.Bool.{Bool, false}
+-- `reading::gathering::gather_line` meets its contract: the cursor is carried on from the read addresses to the switch bits and to the write addresses, and
+-- what is found there is what the scan of the file finds in line t.
+use Prim.Native.Nat.{ℕ, _+_, _*_}
+use mathlib.Core.Path.{_≡_, subst, sym, ap, _∙_}
+use mathlib.Core.Bool.{false}
 use mathlib.Core.List.{List}
 use native.Mathlib.Omega.{arith}
 use borrow.Author.Needs.{needs}
-use Rattle.laws.specs.Any.{any}
-use Rattle.tables.specs.Datapath.{carryStrays}
-use Rattle.tables.specs.inner.Lines.{Line}
-use Rattle.tables.proofs.Dims.{cycles-mul, depth-reaches, lines-few}
-use Rattle.tables.proofs.Lined.{spare-strays}
-use Rattle.reading.specs.Reading.{readFault, writeFault}
-use Rattle.reading.specs.inner.Gathering.{Gather}
-use Rattle.reading.proofs.Scanned.{scan-read, scan-carry, scan-write}
-use Rattle.reading.proofs.Gathers.{read-faults, write-faults, markable, gather-more}
+use lib.ListN.{length}
+use Rattle.limits.specs.Limits.{mostWidth}
+use Rattle.bits.specs.Reading.{onward}
+use Rattle.bits.specs.inner.Taking.{WithZeros}
+use Rattle.tables.specs.inner.Lines.{rowAt, spareUsed}
+use Rattle.tables.proofs.Dims.{depth-reaches, lines-few}
+use Rattle.tables.proofs.Cursors.{room-less, room-behind, carried-on}
+use Rattle.tables.proofs.Opens.{shape-same}
+use Rattle.tables.proofs.Passes.{Fitting, line-fits, line-sized, crossings-read, crossings-zeros}
+use Rattle.reading.specs.inner.Rows.{RowRead, RowWritten}
+use Rattle.reading.specs.declared.rows.Row.{Row}
+use Rattle.reading.specs.declared.rows.Row.the-variants.{Passed}
+use Rattle.reading.proofs.Known.{readsOf, zeros-self, send, read-refused, carry-refused, write-refused, line-passes}
 use Rattle.reading.proofs.gathering.gather_line.Statement.{statement}
 use Rattle.reading.proofs.gathering.gather_line.Tie as tie
 
--- a test of the line, in a file
-abbrev own : (ℕ → ℕ → List ℕ → ℕ → Bool) → tie.Start → List ℕ → Bool
-own test s file = test (s .args .shape .words) (s .args .shape .width) file (s .args .t)
-
-abbrev reading : ℕ → ℕ → List ℕ → ℕ → Bool
-reading n w file t = any w (readFault n w file t)
-
-abbrev writing : ℕ → ℕ → List ℕ → ℕ → Bool
-writing n w file t = any w (writeFault n w file t)
-
--- the line is the file's, and the lines before it are gathered
-abbrev Held : tie.Start → List ℕ → Type 0
-Held s file =
-    let a = s .args in
-    Line (a .shape .words) (a .shape .width) file (a .t) (a .reads .now) (a .sources .now) (a .writes .now)
-    × Gather (a .shape .words) (a .shape .width) file (a .t) (a .places .now) (a .words .now)
-
--- a frame's marks are as long as the frame
-marks-long : (s : tie.Start) → s .args .shape .cycles * s .args .shape .width ≡ s .args .shape .words
-marks-long s = rw (s .pre .0 .cycles) (cycles-mul (s .pre .0 .dims))
-
 -- ---- the places
 
-abbrev entry : tie.After-slice-known2 → tie.Start
-entry c = c .before .before .before .before .before
+abbrev start : tie.After-take-reads → tie.Start
+start c = c .before .before .before .before .before .before .before .before .before
 
-abbrev start : tie.After-fault → tie.Start
-start c = entry (c .before .before)
+abbrev found : tie.After-known-told → tie.After-take-reads
+found c = c .before .before .before .before .before
 
-abbrev read-carry : tie.After-spare-used → tie.Else1
-read-carry c = c .before
+abbrev behind-reads : tie.After-sources → tie.After-known-told
+behind-reads c = c .before .before .before
 
-abbrev start2 : tie.After-spare-used → tie.Start
-start2 c = start (read-carry c .before)
+abbrev carried : tie.After-spare-used → tie.After-sources
+carried c = c .before .before .before .before .before .before
 
-abbrev carry-write : tie.After-fault2 → tie.Else2
-carry-write c = c .before .before
+abbrev passed : tie.After-take-writes → tie.Else1
+passed c = c .before .before .before .before .before .before
 
-abbrev start3 : tie.After-fault2 → tie.Start
-start3 c = start2 (carry-write c .before)
+abbrev sent : tie.After-take-writes → tie.After-sources
+sent c = carried (passed c .before)
+
+abbrev begun : tie.After-sources → tie.Start
+begun c = start (found (behind-reads c))
 
 -- ---- the facts
 
--- what each test answers
-read-tested : (c : tie.After-fault) {file : List ℕ} → Held (start c) file → own reading (start c) file ≡ c .fault .result
-read-tested c H =
-    let shaped = start c .pre .0 in
-    sym (read-faults (shaped .dims) (H .1) (H .0)) ∙ rw (shaped .cycles) at (sym (c .fault .ensures))
+-- the bits of a row of addresses
+abbrev row : tie.Start → ℕ
+row s = s .args .shape .width * s .args .shape .addressing
 
-carry-tested : (c : tie.After-spare-used) {file : List ℕ} → Held (start2 c) file → own carryStrays (start2 c) file ≡ c .spare-used .result
-carry-tested c H = sym (spare-strays (H .0)) ∙ rw (start2 c .pre .0 .lines) at (sym (c .spare-used .ensures))
+fits-known : (s : tie.Start) → Fitting (s .args .shape)
+fits-known s = line-fits (s .pre .0 .0 .dims) (shape-same (s .pre .0 .0))
 
-write-tested : (c : tie.After-fault2) {file : List ℕ} → Held (start3 c) file → own writing (start3 c) file ≡ c .fault2 .result
-write-tested c H =
-    let shaped = start3 c .pre .0 in
-    sym (write-faults (shaped .dims) (H .1) (H .0)) ∙ rw (shaped .cycles) at (sym (c .fault2 .ensures))
+-- what the search of the read addresses says, once its answer is known
+reads-told : (c : tie.After-take-reads) (r : Row) → c .take-reads .result ≡ r
+    → let a = start c .args in
+    RowRead r (a .cursor) (rowAt (a .bytes .now) (a .cursor .at) (a .shape .addressing)) (a .places .now) (a .shape) (c .take-reads .last .1 .1 .1 .1 .0)
+reads-told c r e =
+    let a = start c .args in
+    let Says : Row → Type 0 =
+    λ r. RowRead r (a .cursor) (rowAt (a .bytes .now) (a .cursor .at) (a .shape .addressing)) (a .places .now) (a .shape) (c .take-reads .last .1 .1 .1 .1 .0) in
+    subst Says e (c .take-reads .ensures)
 
--- what each test that was passed says
-no-read : (c : tie.Else1) {file : List ℕ} → Held (start (c .before)) file → own reading (start (c .before)) file ≡ false
-no-read c H = read-tested (c .before) H ∙ c .if1 .left
+-- they passed
+reads-passed : (c : tie.After-known-told)
+    → let a = start (found c) .args in
+    RowRead (Passed (c .before .next .given .0 .0)) (a .cursor) (rowAt (a .bytes .now) (a .cursor .at) (a .shape .addressing)) (a .places .now) (a .shape)
+    (found c .take-reads .last .1 .1 .1 .1 .0)
+reads-passed c = reads-told (found c) _ (c .before .next .given .1)
 
-no-carry : (c : tie.Else2) {file : List ℕ} → Held (start2 (c .before)) file → own carryStrays (start2 (c .before)) file ≡ false
-no-carry c H = carry-tested (c .before) H ∙ c .if2 .left
+-- the cursor behind the switch bits
+switches-behind : (c : tie.After-sources)
+    → let s = begun c in
+    c .sources .result .cursor ≡ onward (s .args .cursor) (row s + s .args .shape .switches)
+switches-behind c =
+    let s = begun c in
+    carried-on (s .args .cursor) (row s) (reads-passed (behind-reads c) .0) (s .args .shape .switches) (c .sources .ensures .0)
 
-no-write : (c : tie.Else3) {file : List ℕ} → Held (start3 (c .before)) file → own writing (start3 (c .before)) file ≡ false
-no-write c H = write-tested (c .before) H ∙ c .if3 .left
+-- no word leaves on a spare line
+none-spare : (c : tie.Else1)
+    → let d = carried (c .before) in
+    let s = begun d in
+    false ≡ spareUsed (d .sources .last .1 .1 .1 .1 .1 .0) (s .args .shape .width) (s .args .shape .lines)
+none-spare c = sym (c .if1 .left) ∙ c .before .spare-used .ensures
 
-fault-requires : tie.Need-fault-requires
-fault-requires c κs =
-    let s = entry (c .before) in
-    let D = s .pre .0 .dims in
-    (omega (arith, s .pre .1 .1 .reading .long, D .narrow), D .narrow, omega (arith, marks-long s, s .pre .1 .2 .long, D .few))
+standing-long : (c : tie.After-sources) → length (c .sources .last .1 .1 .1 .1 .1 .0) ≡ mostWidth
+standing-long c =
+    let s = begun c in
+    let sized = line-sized (s .pre .0 .0 .dims) (shape-same (s .pre .0 .0)) in
+    c .sources .ensures .2 (sized .0) (sized .1) .long
+
+-- what the search of the write addresses says of a file that the bytes read as, once its answer is known
+writes-told : (c : tie.After-take-writes) (r : Row) → c .take-writes .result ≡ r
+    → let d = sent c in
+    let a = begun d .args in
+    let behind = d .sources .result .cursor in
+    (file : List ℕ) → WithZeros file (a .bytes .now)
+    → RowWritten r behind (readsOf (a .shape .words) (a .shape .width) file (a .t)) (d .sources .last .1 .1 .1 .1 .1 .0)
+    (rowAt (a .bytes .now) (behind .at) (a .shape .addressing)) (a .shape) (a .places .now) (a .words .now)
+    (c .take-writes .last .1 .1 .1 .1 .1 .0) (c .take-writes .last .1 .1 .1 .1 .1 .1 .0)
+writes-told c r e file Z =
+    let d = sent c in
+    let s = begun d in
+    let a = s .args in
+    let behind = d .sources .result .cursor in
+    let told = reads-passed (behind-reads d) in
+    let Says : Row → Type 0 =
+    λ r. RowWritten r behind (readsOf (a .shape .words) (a .shape .width) file (a .t)) (d .sources .last .1 .1 .1 .1 .1 .0)
+    (rowAt (a .bytes .now) (behind .at) (a .shape .addressing)) (a .shape) (a .places .now) (a .words .now)
+    (c .take-writes .last .1 .1 .1 .1 .1 .0) (c .take-writes .last .1 .1 .1 .1 .1 .1 .0) in
+    subst Says e (c .take-writes .ensures (readsOf (a .shape .words) (a .shape .width) file (a .t))
+    (send (a .shape) (a .cursor) (a .t) (s .pre .0 .0) Z (s .pre .1 .1) (told .0) (d .sources .ensures .2) (told .1) (none-spare (passed c))))
+
+take-reads-requires : tie.Need-take-reads-requires
+take-reads-requires c κs =
+    let s = c .before .before .before .before .before .before .before .before in
+    ((s .pre .0 .0, s .pre .0 .2, room-less (s .pre .0 .1) (omega (arith, fits-known s .all))), (s .pre .1 .0 .3, s .pre .1 .0 .1))
+
+enum-told : tie.Need-enum-told
+enum-told c = search needs
+
+enum-known-next : tie.Need-enum-known-next
+enum-known-next c = search needs
+
+sources-requires : tie.Need-sources-requires
+sources-requires c κs =
+    let d = c .before .before in
+    let s = start (found d) in
+    let f = fits-known s in
+    let room = room-behind (s .args .cursor) (row s) (reads-passed d .0) {m = s .args .shape .switches} (s .pre .0 .1) (omega (arith, f .all)) in
+    (line-sized (s .pre .0 .0 .dims) (shape-same (s .pre .0 .0)), (s .pre .0 .2, f .lines, f .switches, room, s .pre .1 .0 .0, s .pre .1 .0 .2))
+
+spare-used-requires : tie.Need-spare-used-requires
+spare-used-requires c κs =
+    let d = c .before .before .before .before .before in
+    let s = begun d in
+    let v = s .pre .0 .0 .lines in
+    (rw v (depth-reaches (s .args .shape .width)), omega (arith, standing-long d, v, lines-few (s .pre .0 .0 .dims)))
 
 same-length : tie.Need-same-length
 same-length c = search needs
 
-returns : tie.Need-returns
-returns c file L G k refused next = scan-read _ _ _ refused next k _ (read-tested (c .before) (L, G) ∙ c .if1 .taken)
-
-spare-used-requires : tie.Need-spare-used-requires
-spare-used-requires c κs =
-    let s = start (c .before) in
-    let v = s .pre .0 .lines in
-    (rw v (depth-reaches (s .args .shape .width)), omega (arith, s .pre .1 .1 .carrying .long, v, lines-few (s .pre .0 .dims)))
-
 same-length-2 : tie.Need-same-length-2
 same-length-2 c = search needs
-
-returns-2 : tie.Need-returns-2
-returns-2 c file L G k refused next =
-    let H : Held (start2 (c .before)) file = (L, G) in
-    scan-carry _ _ _ refused next k _ (no-read (read-carry (c .before)) H) (carry-tested (c .before) H ∙ c .if2 .taken)
-
-fault-requires-2 : tie.Need-fault-requires-2
-fault-requires-2 c κs =
-    let s = start2 (c .before .before) in
-    let D = s .pre .0 .dims in
-    (omega (arith, s .pre .1 .1 .writing .long, D .narrow), D .narrow, omega (arith, marks-long s, s .pre .1 .2 .long′, D .few))
 
 same-length-3 : tie.Need-same-length-3
 same-length-3 c = search needs
@@ -123,19 +152,37 @@ same-length-3 c = search needs
 same-length-4 : tie.Need-same-length-4
 same-length-4 c = search needs
 
-returns-3 : tie.Need-returns-3
-returns-3 c file L G k refused next =
-    let H : Held (start3 (c .before)) file = (L, G) in
-    let carried = carry-write (c .before) in
-    scan-write _ _ _ refused next k _ (no-read (read-carry (carried .before)) H) (no-carry carried H) (write-tested (c .before) H ∙ c .if3 .taken)
+returns : tie.Need-returns
+returns c file Z G k refused next =
+    let d = carried (c .before) in
+    let s = begun d in
+    let told = reads-passed (behind-reads d) in
+    carry-refused (s .args .shape) (s .args .cursor) (s .args .t) (s .pre .0 .0) Z (s .pre .1 .1) G (told .0) (told .1) (d .sources .ensures .2)
+    (sym (c .if1 .taken) ∙ c .before .spare-used .ensures) k refused next
 
-mark-requires : tie.Need-mark-requires
-mark-requires c κs =
-    let passed = c .before .before in
-    let carried = carry-write (passed .before) in
-    let s = start3 (passed .before) in
-    let H : Held s (s .pre .1 .0) = (s .pre .1 .1, s .pre .1 .2) in
-    markable (s .pre .0 .dims) (H .1) (H .0) (no-read (read-carry (carried .before)) H) (no-carry carried H) (no-write passed H)
+take-writes-requires : tie.Need-take-writes-requires
+take-writes-requires c κs =
+    let d = carried (c .before .before .before .before .before .before) in
+    let s = begun d in
+    let f = fits-known s in
+    let told = reads-passed (behind-reads d) in
+    let behind = row s + s .args .shape .switches in (
+      (s .pre .0 .0, s .pre .0 .2, room-behind (s .args .cursor) behind (switches-behind d) (s .pre .0 .1) (omega (arith, f .all))),
+      (
+        (s .pre .1 .0 .3, s .pre .1 .0 .4),
+        (
+          readsOf (s .args .shape .words) (s .args .shape .width) (s .args .bytes .now) (s .args .t),
+          send (s .args .shape) (s .args .cursor) (s .args .t) (s .pre .0 .0) (zeros-self (s .pre .0 .2)) (s .pre .1 .1) (told .0) (d .sources .ensures .2)
+              (told .1) (none-spare (c .before .before .before .before .before)),
+        ),
+      ),
+    )
+
+enum-told-2 : tie.Need-enum-told-2
+enum-told-2 c = search needs
+
+enum-known-end : tie.Need-enum-known-end
+enum-known-end c = search needs
 
 same-length-5 : tie.Need-same-length-5
 same-length-5 c = search needs
@@ -143,30 +190,96 @@ same-length-5 c = search needs
 same-length-6 : tie.Need-same-length-6
 same-length-6 c = search needs
 
+returns-2 : tie.Need-returns-2
+returns-2 c file Z G k refused next =
+    let d = c .before .before .before .before in
+    let s = start d in
+    read-refused (s .args .shape) (s .args .cursor) (s .args .t) (s .pre .0 .0) Z (s .pre .1 .1) G (reads-told d _ (c .enum-told .given .1)) k refused next
+
+same-length-7 : tie.Need-same-length-7
+same-length-7 c = search needs
+
+same-length-8 : tie.Need-same-length-8
+same-length-8 c = search needs
+
+same-length-9 : tie.Need-same-length-9
+same-length-9 c = search needs
+
+same-length-10 : tie.Need-same-length-10
+same-length-10 c = search needs
+
+same-length-11 : tie.Need-same-length-11
+same-length-11 c = search needs
+
+returns-3 : tie.Need-returns-3
+returns-3 c file Z G k refused next =
+    let w = c .before .before .before .before .before .before in
+    let d = sent w in
+    let s = begun d in
+    let told = reads-passed (behind-reads d) in
+    write-refused (s .args .shape) (s .args .cursor) (s .args .t) (s .pre .0 .0) Z (s .pre .1 .1) G (told .0) (told .1) (d .sources .ensures .2)
+    (switches-behind d) (none-spare (passed w)) (writes-told w _ (c .enum-told2 .given .1) file Z) k refused next
+
+same-length-12 : tie.Need-same-length-12
+same-length-12 c = search needs
+
+same-length-13 : tie.Need-same-length-13
+same-length-13 c = found (behind-reads (sent (c .before .before .before .before .before .before .before))) .take-reads .kept .1 .1 .1 .1 .0
+
+same-length-14 : tie.Need-same-length-14
+same-length-14 c = search needs
+
+same-length-15 : tie.Need-same-length-15
+same-length-15 c = search needs
+
+same-length-16 : tie.Need-same-length-16
+same-length-16 c = search needs
+
 returns-4 : tie.Need-returns-4
-returns-4 c file L G =
-    let marked = c .before .before .before .before in
-    let passed = marked .before .before .before in
-    let carried = carry-write (passed .before) in
-    let s = start3 (passed .before) in
-    let H : Held s file = (L, G) in
-    gather-more (s .pre .0 .dims) G L (no-read (read-carry (carried .before)) H) (no-carry carried H) (no-write passed H) (marked .mark .ensures)
+returns-4 c file Z G =
+    let w = c .before .before .before .before .before .before .before in
+    let d = sent w in
+    let s = begun d in
+    let a = s .args in
+    let told = reads-passed (behind-reads d) in
+    let wrote = writes-told w _ (c .before .end .given .1) file Z in
+    let end = carried-on (a .cursor) (row s + a .shape .switches) (switches-behind d) (row s) (wrote .0) in
+    let crossed = crossings-read _ _ (a .bytes .now) (a .cursor) (shape-same (s .pre .0 .0)) (told .0) (a .t) (s .pre .1 .1) (d .sources .ensures .1) in (
+      end ∙ ap (onward (a .cursor)) (fits-known s .all),
+      crossed ∙ crossings-zeros Z (a .shape .words) (a .shape .width) (a .t),
+      line-passes (a .shape) (a .cursor) (a .t) (s .pre .0 .0) Z (s .pre .1 .1) G (told .0) (told .1) (d .sources .ensures .2) (switches-behind d)
+          (none-spare (passed w)) (wrote .1),
+    )
 
 pub gather-line-spec : {M : Type 1} → statement M
 gather-line-spec =
     tie.close
     (tie.spec
-    fault-requires
-    same-length
-    returns
+    take-reads-requires
+    enum-told
+    enum-known-next
+    sources-requires
     spare-used-requires
+    same-length
     same-length-2
-    returns-2
-    fault-requires-2
     same-length-3
     same-length-4
-    returns-3
-    mark-requires
+    returns
+    take-writes-requires
+    enum-told-2
+    enum-known-end
     same-length-5
     same-length-6
+    returns-2
+    same-length-7
+    same-length-8
+    same-length-9
+    same-length-10
+    same-length-11
+    returns-3
+    same-length-12
+    same-length-13
+    same-length-14
+    same-length-15
+    same-length-16
     returns-4)

@@ -1,18 +1,19 @@
 -- `lines::sources` meets its contract: a network of one line has no bits, one of two lines is one switch, and through a wider one the numbered lines
--- are sent all at once. The ones among the bits that were found are the ones among the file's.
-use Prim.Native.Nat.{ℕ, _+_, _<_, _≤_}
+-- are sent all at once.
+use Prim.Native.Nat.{ℕ, _+_, _%_, _<_, _≤_}
 use mathlib.Core.Path.{_≡_, sym, ap, _∙_}
 use native.Mathlib.Omega.{arith}
 use borrow.Author.Needs.{needs}
 use lib.ListN.{length, getD, length-set}
 use lib.Seq.{length-take-le}
 use Rattle.laws.specs.Sum.{hits}
-use Rattle.laws.proofs.Sums.{hits-none, hits-ext}
+use Rattle.laws.proofs.Sums.{hits-none}
 use Rattle.bits.specs.Bits.{bit}
 use Rattle.bits.specs.Reading.{onward}
 use Rattle.bits.proofs.Fields.{bit-lt}
 use Rattle.bits.proofs.OnePass.{onward-none}
-use Rattle.tables.proofs.Passes.{fronts-sized, sources-routed, sources-straight, sources-switched, one-counted}
+use Rattle.tables.proofs.Puts.{bitCount-fits}
+use Rattle.tables.proofs.Passes.{fronts-sized, sources-routed, sources-straight, sources-switched}
 use Rattle.tables.proofs.lines.sources.Statement.{statement}
 use Rattle.tables.proofs.lines.sources.Tie as tie
 
@@ -24,8 +25,8 @@ start c = c .before .before .before .before .before .before
 abbrev numbered : tie.After-number → tie.After-switches
 numbered c = c .before .before .before .before .before
 
-abbrev counted : tie.After-ones → tie.After-number
-counted c = c .before .before .before .before
+abbrev fronts : tie.After-route-arg → tie.After-number
+fronts c = c .before .before .before
 
 -- ---- the facts
 
@@ -34,14 +35,14 @@ abbrev found : tie.After-switches → ℕ → ℕ
 found c i = getD (c .switches .last .1 .1 .1 .0) i 0
 
 found-lt : (c : tie.After-switches) (i : ℕ) → i < start c .args .count → found c i < 2
-found-lt c i l = let s = start c in rw (c .switches .ensures .1 .each i l) (bit-lt (s .args .file .now) (s .args .cursor .at + i))
+found-lt c i l = let s = start c in rw (c .switches .ensures .2 .each i l) (bit-lt (s .args .file .now) (s .args .cursor .at + i))
 
 -- both fronts reach over the network
 standing-long : (c : tie.After-number) → start (numbered c) .args .lines ≤ length (c .number .last .0)
 standing-long c = omega (arith, c .number .ensures .0, start (numbered c) .pre .1)
 
 setting-long : (c : tie.After-switches) → start c .args .count ≤ length (c .switches .last .1 .1 .1 .0)
-setting-long c = omega (arith, c .switches .ensures .1 .long, start c .pre .1)
+setting-long c = omega (arith, c .switches .ensures .2 .long, start c .pre .1)
 
 -- ---- one line
 
@@ -61,7 +62,10 @@ returns c =
     )
 
 switches-requires : tie.Need-switches-requires
-switches-requires c κs = search needs
+switches-requires c κs =
+    let s = c .before .before .before .before .before in
+    let fours : s .args .count % 4 ≤ 1 = omega (arith, bitCount-fits (s .pre .0 .0), ap (λ (k : ℕ). k % 4) (s .pre .0 .1 .1)) in
+    (s .pre .1 .0, s .pre .1 .2, fours, s .pre .1 .3, s .pre .1 .4)
 
 -- ---- two lines
 
@@ -86,9 +90,6 @@ slice-write-standing-3 c =
     let s = start (switched c) in
     omega (arith, length-set (s .args .standing .now) 0 (found (switched c) 0), s .pre .1 .5)
 
-cast-t18 : tie.Need-cast-t18
-cast-t18 c = omega (arith, bit-known c)
-
 same-length-2 : tie.Need-same-length-2
 same-length-2 c = search needs
 
@@ -100,11 +101,10 @@ returns-2 c =
     let d = switched c in
     let s = start d in
     let one : s .args .count ≡ 1 = c .before .if2 .taken in
-    let bits = d .switches .ensures .1 in
+    let bits = d .switches .ensures .2 in
     let same = bits .each 0 (omega arith) in (
       d .switches .ensures .0,
-      one-counted (found d) one (bit-known c)
-          ∙ hits-ext (s .args .count) (found d) (λ i. bit (s .args .file .now) (s .args .cursor .at + i)) 1 (bits .each),
+      d .switches .ensures .1,
       λ depth S. sources-switched depth _ (s .args .standing .now) (found d 0) S one same (s .pre .1 .5),
     )
 
@@ -113,32 +113,21 @@ returns-2 c =
 number-requires : tie.Need-number-requires
 number-requires c κs = search needs
 
--- there is more than one switch
-many : (c : tie.After-ones-arg) → 1 < start (numbered (c .before .before .before)) .args .count
-many c =
-    let d = c .before .before .before in
-    omega (arith, d .before .before .if2 .left, numbered d .before .before .if1 .left)
-
-ones-requires : tie.Need-ones-requires
-ones-requires c κs =
-    let d = numbered (c .before .before .before) in
-    ((omega (arith, setting-long d, many c), omega (arith, start d .pre .1, many c)), λ i l. found-lt d i (omega (arith, many c)))
-
 slice-reshare-prefix-route : tie.Need-slice-reshare-prefix-route
 slice-reshare-prefix-route c = search needs
 
 slice-aggregate-route : tie.Need-slice-aggregate-route
-slice-aggregate-route c = let d = numbered (counted (c .before)) in sym (length-take-le _ (d .switches .last .1 .1 .1 .0) (setting-long d))
+slice-aggregate-route c = let d = numbered (fronts c) in sym (length-take-le _ (d .switches .last .1 .1 .1 .0) (setting-long d))
 
 slice-relend-prefix-route : tie.Need-slice-relend-prefix-route
 slice-relend-prefix-route c = search needs
 
 slice-aggregate-route-2 : tie.Need-slice-aggregate-route-2
-slice-aggregate-route-2 c = let d = counted (c .before .before) in sym (length-take-le _ (d .number .last .0) (standing-long d))
+slice-aggregate-route-2 c = let d = fronts (c .before) in sym (length-take-le _ (d .number .last .0) (standing-long d))
 
 route-requires : tie.Need-route-requires
 route-requires c κs =
-    let d = counted (c .before .before) in
+    let d = fronts (c .before) in
     let s = start (numbered d) in
     let setting = numbered d .switches .last .1 .1 .1 .0 in
     let standing = d .number .last .0 in
@@ -154,16 +143,14 @@ same-length-5 c = search needs
 returns-3 : tie.Need-returns-3
 returns-3 c =
     let routed = c .before .before in
-    let added = routed .before .before .before in
-    let d = counted added in
+    let d = fronts (routed .before .before) in
     let taken = numbered d in
     let s = start taken in
     let setting = taken .switches .last .1 .1 .1 .0 in
-    let standing = d .number .last .0 in
-    let bits = taken .switches .ensures .1 in (
+    let standing = d .number .last .0 in (
       taken .switches .ensures .0,
-      added .ones .ensures ∙ hits-ext (s .args .count) (found taken) (λ i. bit (s .args .file .now) (s .args .cursor .at + i)) 1 (bits .each),
-      λ depth S. sources-routed standing S (s .pre .1 .1) bits (d .number .ensures)
+      taken .switches .ensures .1,
+      λ depth S. sources-routed standing S (s .pre .1 .1) (taken .switches .ensures .2) (d .number .ensures)
           (routed .route .ensures depth (fronts-sized depth setting standing S (standing-long d) (setting-long taken))),
     )
 
@@ -179,12 +166,10 @@ sources-spec =
     slice-write-standing-2
     sub-standing
     slice-write-standing-3
-    cast-t18
     same-length-2
     same-length-3
     returns-2
     number-requires
-    ones-requires
     slice-reshare-prefix-route
     slice-aggregate-route
     slice-relend-prefix-route
