@@ -96,6 +96,9 @@ pub fn take_reads(
         b += GROUP;
     }
     let rest = shape.width - b;
+    if rest == 0 {
+        return Row::Passed(next);
+    }
     let last = bits::next_field(file, next, rest * shape.addressing);
     if read_group(last.value, rest, b, shape, places, reads) {
         return Row::Faulty;
@@ -199,6 +202,9 @@ pub fn take_writes<'a>(
         k += GROUP;
     }
     let rest = shape.width - k;
+    if rest == 0 {
+        return Row::Passed(next);
+    }
     let last = bits::next_field(file, next, rest * shape.addressing);
     if write_group(last.value, rest, k, shape, reads, sources, places, words) {
         return Row::Faulty;

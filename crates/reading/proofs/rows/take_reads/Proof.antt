@@ -1,6 +1,6 @@
 -- `reading::rows::take_reads` meets its contract: each turn takes one group of banks, from where the one before it ended, and the banks that are left
 -- are a shorter group.
-use Prim.Native.Nat.{_+_, _*_, _-_, _≤_}
+use Prim.Native.Nat.{ℕ, _+_, _*_, _-_, _≤_}
 use mathlib.Core.Path.{_≡_, sym, ap, _∙_}
 use native.Mathlib.Nat.{add-mul, zero-mul}
 use native.Mathlib.Omega.{arith}
@@ -36,7 +36,7 @@ abbrev grouped : tie.After-read-group Inv-loop μ-loop → tie.After-struct-know
 grouped c = c .before .before .before
 
 abbrev over : tie.After-struct-known4 Inv-loop μ-loop → tie.At-loop Inv-loop μ-loop
-over c = c .before .before .before .before
+over c = c .before .before .before .before .before
 
 abbrev last : tie.After-read-group2 Inv-loop μ-loop → tie.After-struct-known4 Inv-loop μ-loop
 last c = c .before .before .before
@@ -56,7 +56,7 @@ more c = c .before .if1 .taken
 
 left-few : (c : tie.After-struct-known4 Inv-loop μ-loop) → let a = start (over c) .args in
     (a .shape .width - over c .loop .b) * a .shape .addressing ≤ 42
-left-few c = let s = start (over c) in rest-few (s .args .shape .width) (over c .loop .b) (s .args .shape .addressing) (c .before .before .if1 .left) (few s)
+left-few c = let s = start (over c) in rest-few (s .args .shape .width) (over c .loop .b) (s .args .shape .addressing) (c .before .before .before .if1 .left) (few s)
 
 left-fits : (c : tie.After-struct-known4 Inv-loop μ-loop) → let a = start (over c) .args in
     let b = over c .loop .b in
@@ -135,6 +135,16 @@ loop-again c =
 sub-rest : tie.Need-sub-rest Inv-loop μ-loop
 sub-rest c = c .before .before .before .loop .inv .0
 
+same-length-2 : tie.Need-same-length-2 Inv-loop μ-loop
+same-length-2 c = search needs
+
+returns-2 : tie.Need-returns-2 Inv-loop μ-loop
+returns-2 c =
+    let l = c .before .before .before .before .loop in
+    let a = start (c .before .before .before .before) .args in
+    let all : l .b ≡ a .shape .width = omega (arith, l .inv .0, c .if3 .taken) in
+    (l .inv .1 ∙ ap (λ (k : ℕ). onward (a .cursor) (k * a .shape .addressing)) all, read-same all (l .inv .2))
+
 mul-next-field-2 : tie.Need-mul-next-field-2 Inv-loop μ-loop
 mul-next-field-2 c = record { fits = omega (arith, left-few c) }
 
@@ -173,22 +183,22 @@ read-group-requires-2 c κs =
     let l = over d .loop in
     ((s .pre .0 .0, omega (arith, l .inv .0), omega (arith, left-few d)), (s .pre .1 .0, l .inv .2 .kept .long))
 
-same-length-2 : tie.Need-same-length-2 Inv-loop μ-loop
-same-length-2 c = search needs
-
-returns-2 : tie.Need-returns-2 Inv-loop μ-loop
-returns-2 c = rest-told (c .before .before .before) .found (c .if3 .taken)
-
 same-length-3 : tie.Need-same-length-3 Inv-loop μ-loop
 same-length-3 c = search needs
 
 returns-3 : tie.Need-returns-3 Inv-loop μ-loop
-returns-3 c =
+returns-3 c = rest-told (c .before .before .before) .found (c .if4 .taken)
+
+same-length-4 : tie.Need-same-length-4 Inv-loop μ-loop
+same-length-4 c = search needs
+
+returns-4 : tie.Need-returns-4 Inv-loop μ-loop
+returns-4 c =
     let d = c .before .before .before .before in
     let l = over (last d) .loop in
     let a = start (over (last d)) .args in
     let all : l .b + (a .shape .width - l .b) ≡ a .shape .width = omega (arith, l .inv .0) in
-    (rest-taken (d .before .before) .1 ∙ ap (onward (a .cursor)) (left-fits (last d)), read-same all (rest-told d .none (c .before .if3 .left)))
+    (rest-taken (d .before .before) .1 ∙ ap (onward (a .cursor)) (left-fits (last d)), read-same all (rest-told d .none (c .before .if4 .left)))
 
 pub take-reads-spec : {M : Type 1} → statement M
 take-reads-spec =
@@ -207,10 +217,12 @@ take-reads-spec =
     loop-less
     loop-again
     sub-rest
+    same-length-2
+    returns-2
     mul-next-field-2
     next-field-requires-2
     read-group-requires-2
-    same-length-2
-    returns-2
     same-length-3
-    returns-3)
+    returns-3
+    same-length-4
+    returns-4)

@@ -39,7 +39,7 @@ abbrev grouped : tie.After-write-group Inv-loop μ-loop → tie.After-struct-kno
 grouped c = c .before .before .before .before
 
 abbrev over : tie.After-struct-known4 Inv-loop μ-loop → tie.At-loop Inv-loop μ-loop
-over c = c .before .before .before .before
+over c = c .before .before .before .before .before
 
 abbrev last : tie.After-write-group2 Inv-loop μ-loop → tie.After-struct-known4 Inv-loop μ-loop
 last c = c .before .before .before .before
@@ -59,7 +59,7 @@ more c = c .before .if1 .taken
 
 left-few : (c : tie.After-struct-known4 Inv-loop μ-loop) → let a = start (over c) .args in
     (a .shape .width - over c .loop .k) * a .shape .addressing ≤ 42
-left-few c = let s = start (over c) in rest-few (s .args .shape .width) (over c .loop .k) (s .args .shape .addressing) (c .before .before .if1 .left) (few s)
+left-few c = let s = start (over c) in rest-few (s .args .shape .width) (over c .loop .k) (s .args .shape .addressing) (c .before .before .before .if1 .left) (few s)
 
 left-fits : (c : tie.After-struct-known4 Inv-loop μ-loop) → let a = start (over c) .args in
     let k = over c .loop .k in
@@ -150,6 +150,19 @@ loop-again c =
 sub-rest : tie.Need-sub-rest Inv-loop μ-loop
 sub-rest c = c .before .before .before .loop .inv .0
 
+same-length-3 : tie.Need-same-length-3 Inv-loop μ-loop
+same-length-3 c = c .before .before .before .before .loop .inv .2
+
+same-length-4 : tie.Need-same-length-4 Inv-loop μ-loop
+same-length-4 c = c .before .before .before .before .loop .inv .3
+
+returns-2 : tie.Need-returns-2 Inv-loop μ-loop
+returns-2 c addresses S =
+    let l = c .before .before .before .before .loop in
+    let a = start (c .before .before .before .before) .args in
+    let all : l .k ≡ a .shape .width = omega (arith, l .inv .0, c .if3 .taken) in
+    (l .inv .1 ∙ ap (λ (k : ℕ). onward (a .cursor) (k * a .shape .addressing)) all, write-same all (l .inv .4 addresses S))
+
 mul-next-field-2 : tie.Need-mul-next-field-2 Inv-loop μ-loop
 mul-next-field-2 c = record { fits = omega (arith, left-few c) }
 
@@ -194,15 +207,6 @@ write-group-requires-2 c κs =
       ((omega (arith, s .pre .1 .0, l .inv .2), omega (arith, s .pre .1 .0, l .inv .3)), s .pre .1 .1),
     )
 
-same-length-3 : tie.Need-same-length-3 Inv-loop μ-loop
-same-length-3 c = search needs
-
-same-length-4 : tie.Need-same-length-4 Inv-loop μ-loop
-same-length-4 c = search needs
-
-returns-2 : tie.Need-returns-2 Inv-loop μ-loop
-returns-2 c addresses S = rest-told (c .before .before .before .before .before) addresses S .found (c .if3 .taken)
-
 same-length-5 : tie.Need-same-length-5 Inv-loop μ-loop
 same-length-5 c = search needs
 
@@ -210,13 +214,22 @@ same-length-6 : tie.Need-same-length-6 Inv-loop μ-loop
 same-length-6 c = search needs
 
 returns-3 : tie.Need-returns-3 Inv-loop μ-loop
-returns-3 c addresses S =
+returns-3 c addresses S = rest-told (c .before .before .before .before .before) addresses S .found (c .if4 .taken)
+
+same-length-7 : tie.Need-same-length-7 Inv-loop μ-loop
+same-length-7 c = search needs
+
+same-length-8 : tie.Need-same-length-8 Inv-loop μ-loop
+same-length-8 c = search needs
+
+returns-4 : tie.Need-returns-4 Inv-loop μ-loop
+returns-4 c addresses S =
     let d = c .before .before .before .before .before .before in
     let l = over (last d) .loop in
     let a = start (over (last d)) .args in
     let all : l .k + (a .shape .width - l .k) ≡ a .shape .width = omega (arith, l .inv .0) in (
       rest-taken (d .before .before .before) .1 ∙ ap (onward (a .cursor)) (left-fits (last d)),
-      write-same all (rest-told d addresses S .none (c .before .if3 .left)),
+      write-same all (rest-told d addresses S .none (c .before .if4 .left)),
     )
 
 pub take-writes-spec : {M : Type 1} → statement M
@@ -237,12 +250,15 @@ take-writes-spec =
     loop-less
     loop-again
     sub-rest
-    mul-next-field-2
-    next-field-requires-2
-    write-group-requires-2
     same-length-3
     same-length-4
     returns-2
+    mul-next-field-2
+    next-field-requires-2
+    write-group-requires-2
     same-length-5
     same-length-6
-    returns-3)
+    returns-3
+    same-length-7
+    same-length-8
+    returns-4)
