@@ -2,10 +2,11 @@
 ghost use mathlib.Core.Path.{_≡_};
 ghost use mathlib.Core.Bool.{false};
 ghost use mathlib.Core.List.{List};
-ghost use Prim.Native.Nat.{ℕ, _*_, _<_, _≤_};
-ghost use lib.ListN.{length};
+ghost use Prim.Native.Nat.{ℕ, _*_, _-_, _<_, _≤_};
+ghost use lib.ListN.{length, getD, set};
 ghost use Rattle.laws.specs.Choice.{ifLt};
 ghost use Rattle.laws.specs.Tabulate.{overwrite};
+ghost use Rattle.bits.specs.inner.Taking.{WithZeros};
 ghost use Rattle.tables.specs.Terms.{cycles};
 ghost use Rattle.tables.specs.Format.{Shaped};
 ghost use Rattle.tables.specs.Datapath.{strays};
@@ -20,6 +21,7 @@ use limits::MOST_WIDTH;
 use refusal::Refusal;
 use tables::Opened;
 use tables::Shape;
+use tables::address_in;
 use tables::any_from;
 use tables::cursor_at;
 use tables::line_at;
@@ -118,16 +120,13 @@ fn move_words<'a>(
     }
 }
 
-// The clock's own line, if fill is at least 1: 9, 10 and 11 for its ranges, then its words move, and its crossed switches are counted.
-fn move_line(file: &[u8], shape: Shape, clock: Clock, first: &[u16], second: &mut [u16]) -> Moved
-    requires { ⌜ Shaped shape × InRange (cycles (shape .words) (shape .width)) clock ⌝ }
+// The line of a set of width 3 or more: its parts are taken to arrays, and tested and moved there.
+fn move_wide(file: &[u8], shape: Shape, clock: Clock, first: &[u16], second: &mut [u16]) -> Moved
+    requires { ⌜ Shaped shape × InRange (cycles (shape .words) (shape .width)) clock × (1 ≤ clock .fill) ⌝ }
     requires { ⌜ (2 * shape .words ≤ length (now first)) × (2 * shape .words ≤ length (now second)) ⌝ }
     ensures { λ r. ⌜ lineOutcome r (now (second .exit))
         ≡ moveOf (shape .words) (shape .width) (now (file .entry)) clock (now (first .entry)) (now (second .entry)) ⌝ }
 {
-    if clock.fill < 1 {
-        return Moved::Crossed(0);
-    }
     let mut setting = [0u8; MOST_SWITCHES];
     let mut reads = [0u16; MOST_WIDTH];
     let mut sources = [0u8; MOST_WIDTH];
@@ -152,6 +151,105 @@ fn move_line(file: &[u8], shape: Shape, clock: Clock, first: &[u16], second: &mu
     }
     move_words(shape, clock, &reads, &sources, &writes, first, second);
     Moved::Crossed(line.crossed)
+}
+
+// The word at an address of a bank of the first memory, in half 1-h, moves to an address of a bank of the second, in half h.
+fn move_word(
+    shape: Shape,
+    clock: Clock,
+    bank: usize,
+    read: usize,
+    to: usize,
+    write: usize,
+    first: &[u16],
+    second: &mut [u16],
+)
+    requires { ⌜ Shaped shape × InRange (cycles (shape .words) (shape .width)) clock ⌝ }
+    requires { ⌜ (bank < shape .width) × (read < shape .cycles) × (to < shape .width) × (write < shape .cycles) ⌝ }
+    requires { ⌜ (2 * shape .words ≤ length (now first)) × (2 * shape .words ≤ length (now second)) ⌝ }
+    ensures { λ _. ⌜ now (second .exit)
+        ≡ set (now (second .entry)) (spot (cycles (shape .words) (shape .width)) (clock .half) to write)
+        (getD (now (first .entry)) (spot (cycles (shape .words) (shape .width)) (1 - clock .half) bank read) 0) ⌝ }
+{
+    let from = spot_of(shape, 1 - clock.half, bank, read);
+    second[spot_of(shape, clock.half, to, write)] = first[from];
+}
+
+// The line of a set of width 1: one field, of a read and a write address.
+fn move_one(bytes: &[u8], shape: Shape, clock: Clock, first: &[u16], second: &mut [u16]) -> Moved
+    requires { ⌜ Shaped shape × InRange (cycles (shape .words) (shape .width)) clock × (1 ≤ clock .fill) × (shape .width ≡ 1) ⌝ }
+    requires { ⌜ (8 ≤ length (now bytes)) × (2 * shape .words ≤ length (now first)) × (2 * shape .words ≤ length (now second)) ⌝ }
+    ensures { λ r. ⌜ ((file : List ℕ) → WithZeros file (now (bytes .entry)) → lineOutcome r (now (second .exit))
+        ≡ moveOf (shape .words) (shape .width) file clock (now (first .entry)) (now (second .entry))) ⌝ }
+{
+    let t = clock.cycle;
+    let size = shape.addressing;
+    let line = bits::next_field(bytes, cursor_at(shape, t), 2 * size).value;
+    let read = address_in(line, size, size);
+    if shape.cycles <= read {
+        return Moved::Refused(Refusal::ReadAddress(t));
+    }
+    let write = address_in(line, 0, size);
+    if shape.cycles <= write {
+        return Moved::Refused(Refusal::WriteAddress(t));
+    }
+    move_word(shape, clock, 0, read, 0, write, first, second);
+    Moved::Crossed(0)
+}
+
+// The line of a set of width 2: one field, of two read addresses, the bit of the one switch and two write addresses. The switch sends bank 0 to
+// the bank of its bit's number, and bank 1 to the other; `near` and `far` are the write addresses of these banks.
+fn move_two(bytes: &[u8], shape: Shape, clock: Clock, first: &[u16], second: &mut [u16]) -> Moved
+    requires { ⌜ Shaped shape × InRange (cycles (shape .words) (shape .width)) clock × (1 ≤ clock .fill) × (shape .width ≡ 2) ⌝ }
+    requires { ⌜ (8 ≤ length (now bytes)) × (2 * shape .words ≤ length (now first)) × (2 * shape .words ≤ length (now second)) ⌝ }
+    ensures { λ r. ⌜ ((file : List ℕ) → WithZeros file (now (bytes .entry)) → lineOutcome r (now (second .exit))
+        ≡ moveOf (shape .words) (shape .width) file clock (now (first .entry)) (now (second .entry))) ⌝ }
+{
+    let t = clock.cycle;
+    let size = shape.addressing;
+    let line = bits::next_field(bytes, cursor_at(shape, t), 4 * size + 1).value;
+    let even = address_in(line, 3 * size + 1, size);
+    let odd = address_in(line, 2 * size + 1, size);
+    if shape.cycles <= even {
+        return Moved::Refused(Refusal::ReadAddress(t));
+    }
+    if shape.cycles <= odd {
+        return Moved::Refused(Refusal::ReadAddress(t));
+    }
+    let bit = address_in(line, 2 * size, 1);
+    let near = address_in(line, (1 - bit) * size, size);
+    let far = address_in(line, bit * size, size);
+    if shape.cycles <= near {
+        return Moved::Refused(Refusal::WriteAddress(t));
+    }
+    if shape.cycles <= far {
+        return Moved::Refused(Refusal::WriteAddress(t));
+    }
+    move_word(shape, clock, 0, even, bit, near, first, second);
+    move_word(shape, clock, 1, odd, 1 - bit, far, first, second);
+    Moved::Crossed(bit)
+}
+
+// The clock's own line, if fill is at least 1: 9, 10 and 11 for its ranges, then its words move, and its crossed switches are counted. A line of
+// one or two banks is one field, and needs no arrays.
+fn move_line(file: &[u8], shape: Shape, clock: Clock, first: &[u16], second: &mut [u16]) -> Moved
+    requires { ⌜ Shaped shape × InRange (cycles (shape .words) (shape .width)) clock ⌝ }
+    requires { ⌜ (2 * shape .words ≤ length (now first)) × (2 * shape .words ≤ length (now second)) ⌝ }
+    ensures { λ r. ⌜ lineOutcome r (now (second .exit))
+        ≡ moveOf (shape .words) (shape .width) (now (file .entry)) clock (now (first .entry)) (now (second .entry)) ⌝ }
+{
+    if clock.fill < 1 {
+        return Moved::Crossed(0);
+    }
+    if 2 < shape.width {
+        return move_wide(file, shape, clock, first, second);
+    }
+    let replacement = bits::padded(file);
+    let bytes = bits::long_enough(file, &replacement);
+    if shape.width == 1 {
+        return move_one(bytes, shape, clock, first, second);
+    }
+    move_two(bytes, shape, clock, first, second)
 }
 
 // The words that leave, if fill is 2: address t of half 1-h of each bank of the second memory.

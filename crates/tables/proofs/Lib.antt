@@ -29,4 +29,5 @@ pub mod Scans
 pub mod Puts
 pub mod Passes
 pub mod Lined
+pub mod Narrow
 pub mod Crossings

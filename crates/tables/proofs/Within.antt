@@ -30,7 +30,7 @@ accepted-within A t l = record {
 }
 
 -- each of k numbers is below m
-below-none : (m k : ℕ) (f : ℕ → ℕ) → ((b : ℕ) → b < k → f b < m) → any k (λ b. leb m (f b)) ≡ false
+pub below-none : (m k : ℕ) (f : ℕ → ℕ) → ((b : ℕ) → b < k → f b < m) → any k (λ b. leb m (f b)) ≡ false
 below-none m k f h = any-none k (λ b. leb m (f b)) (λ b l. lt-leb m (f b) (h b l))
 
 none-below : (m k : ℕ) (f : ℕ → ℕ) → any k (λ b. leb m (f b)) ≡ false → (b : ℕ) → b < k → f b < m
