@@ -91,16 +91,22 @@ bits-left count j size l e = omega (arith, e, mul-le-mul-right {m = suc j} {n = 
 pub bits-turned : (count j size : ℕ) {behind : ℕ} → size ≤ behind → j * size + behind ≡ count * size → (j + 1) * size + (behind - size) ≡ count * size
 bits-turned count j size l e = let turned : (j + 1) * size ≡ j * size + size = rw add-one (suc-mul j size) in omega (arith, l, e, turned)
 
--- the address of bank from + j in the field of its group, in which `behind` bits stand behind it
+-- the address of bank b of a row, in a field that has k bits before it and `behind` bits behind it
+pub row-address : (file : List ℕ) (at size b from k behind : ℕ) {all row : ℕ} → row ≡ field file from all → b < mostWidth → at + b * size ≡ from + k
+    → k + size + behind ≡ all → getD (rowAt file at size) b 0 ≡ row / 2 ^ behind % 2 ^ size
+row-address file at size b from k behind e few starts whole =
+    getD-tabulate mostWidth (λ b. field file (at + b * size) size) b 0 few
+    ∙ ap (λ (x : ℕ). field file x size) starts
+    ∙ field-inside file from k size behind
+    ∙ ap (λ (x : ℕ). field file from x / 2 ^ behind % 2 ^ size) whole
+    ∙ ap (λ (x : ℕ). x / 2 ^ behind % 2 ^ size) (sym e)
+
+-- that of bank from + j in the field of its group
 pub group-address : (file : List ℕ) (at size count from j behind : ℕ) {row : ℕ} → row ≡ field file (at + from * size) (count * size)
     → from + j < mostWidth → j * size + size + behind ≡ count * size
     → getD (rowAt file at size) (from + j) 0 ≡ row / 2 ^ behind % 2 ^ size
-group-address file at size count from j behind e few whole =
-    getD-tabulate mostWidth (λ b. field file (at + b * size) size) (from + j) 0 few
-    ∙ ap (λ (x : ℕ). field file x size) (omega (arith, add-mul from j size))
-    ∙ field-inside file (at + from * size) (j * size) size behind
-    ∙ ap (λ (x : ℕ). field file (at + from * size) x / 2 ^ behind % 2 ^ size) whole
-    ∙ ap (λ (x : ℕ). x / 2 ^ behind % 2 ^ size) (sym e)
+group-address file at size count from j behind e few =
+    row-address file at size (from + j) (at + from * size) (j * size) behind e few (omega (arith, add-mul from j size))
 
 -- ---- a row is groups of four banks, and the banks that are left
 

@@ -30,7 +30,7 @@ use Rattle.tables.proofs.Lined.{spare-strays}
 use Rattle.tables.proofs.Passes.{sources-zeros}
 use Rattle.reading.specs.Reading.{ReadOutcome, readFault, writeFault, scanLines}
 use Rattle.reading.specs.inner.Gathering.{faulty, Gather}
-use Rattle.reading.specs.inner.Rows.{Sound, Sending, ReadOn, WriteOn}
+use Rattle.reading.specs.inner.Rows.{Sound, Kept, Sending, WriteOn}
 use Rattle.reading.proofs.Marks.{sound-all}
 use Rattle.reading.proofs.Scanned.{scan-read, scan-carry, scan-write}
 use Rattle.reading.proofs.Gathers.{read-faults, write-faults, sending, gather-more}
@@ -71,7 +71,7 @@ module _ {n w : ℕ} (file : List ℕ) (t : ℕ) (D : Dims n w) where
   writes-known k l = row-addresses file (lineAt n w t + addressRow n w + switchBits w) (addressBits n w) w (D .narrow) .each k l
 
 -- a sound bank's address is in the frame
-sound-inside : {addresses marks : List ℕ} {w c k : ℕ} → Sound addresses marks w c k → (b : ℕ) → b < k → getD addresses b 0 < c
+pub sound-inside : {addresses marks : List ℕ} {w c k : ℕ} → Sound addresses marks w c k → (b : ℕ) → b < k → getD addresses b 0 < c
 sound-inside {addresses} {c = c} N b l = elim (decLt (getD addresses b 0) c) [
   | yes m ↦ m
   | no m ↦ false-true (sym (N .none b l) ∙ sym (choose-yes (leb c (getD addresses b 0)) true true _ (le-leb c (getD addresses b 0) (omega arith)) refl))
@@ -83,7 +83,7 @@ zeros-self long = record { long = long; same = λ i. refl }
 -- line t of a file, as the code holds it: in bytes that read as the file, by a cursor that stands at the line
 module _ (shape : Shape) (cursor : Cursor) (t : ℕ) {file bytes : List ℕ} (S : Shaped shape) (Z : WithZeros file bytes)
     (stands : cursor .at ≡ lineAt (shape .words) (shape .width) t) where
-  read-row : rowAt bytes (cursor .at) (shape .addressing) ≡ readsOf (shape .words) (shape .width) file t
+  pub read-row : rowAt bytes (cursor .at) (shape .addressing) ≡ readsOf (shape .words) (shape .width) file t
   read-row = row-zeros Z (cursor .at) (shape .addressing) ∙ ap₂ (rowAt file) stands (S .addressing)
 
   write-row : {behind : Cursor} → behind ≡ onward cursor (shape .width * shape .addressing + shape .switches)
@@ -108,16 +108,17 @@ module _ (shape : Shape) (cursor : Cursor) (t : ℕ) {file bytes : List ℕ} (S 
     strays : spareUsed sources (shape .width) (shape .lines) ≡ carryStrays (shape .words) (shape .width) file t
     strays = ap (spareUsed sources (shape .width)) (S .lines) ∙ spare-strays line
 
-    module _ {places reads : List ℕ} (R : ReadOn (rowAt bytes (cursor .at) (shape .addressing)) places shape (shape .width) reads)
+    module _ {places : List ℕ} (N : Sound (rowAt bytes (cursor .at) (shape .addressing)) places (shape .width) (shape .cycles) (shape .width))
         (none : false ≡ spareUsed sources (shape .width) (shape .lines)) where
       now-read : (b : ℕ) → b < shape .width → readAddress (shape .words) (shape .width) file t b < cycles (shape .words) (shape .width)
       now-read b l =
           let inside : getD (readsOf (shape .words) (shape .width) file t) b 0 < cycles (shape .words) (shape .width) =
-          rw (read-row, S .cycles) at (sound-inside (R .sound) b l) in
+          rw (read-row, S .cycles) at (sound-inside N b l) in
           rw (reads-known file t (S .dims) b l) at inside
 
-      pub send : Sending (readsOf (shape .words) (shape .width) file t) sources reads (shape .words) (shape .width)
-      send = sending (S .dims) line now-read (sym (none ∙ strays)) (line .carrying .long) (rw read-row at (R .kept))
+      pub send : {reads : List ℕ} → Kept (rowAt bytes (cursor .at) (shape .addressing)) (shape .width) (shape .width) reads
+          → Sending (readsOf (shape .words) (shape .width) file t) sources reads (shape .words) (shape .width)
+      send K = sending (S .dims) line now-read (sym (none ∙ strays)) (line .carrying .long) (rw read-row at K)
 
   module _ {places words : List ℕ} (G : Gather (shape .words) (shape .width) file t places words) where
     reads-agree : faulty (rowAt bytes (cursor .at) (shape .addressing)) places (shape .width) (shape .cycles)
@@ -129,11 +130,11 @@ module _ (shape : Shape) (cursor : Cursor) (t : ℕ) {file bytes : List ℕ} (S 
         → scanLines (shape .words) (shape .width) file (suc k) t refused next ≡ refused (ReadAddress t)
     read-refused h k refused next = scan-read (shape .words) (shape .width) file refused next k t (sym (h ∙ reads-agree))
 
-    module _ {next : Cursor} {sources reads : List ℕ} (e : next ≡ onward cursor (shape .width * shape .addressing))
-        (R : ReadOn (rowAt bytes (cursor .at) (shape .addressing)) places shape (shape .width) reads)
+    module _ {next : Cursor} {sources : List ℕ} (e : next ≡ onward cursor (shape .width * shape .addressing))
+        (N : Sound (rowAt bytes (cursor .at) (shape .addressing)) places (shape .width) (shape .cycles) (shape .width))
         (carried : (d : ℕ) → Sized (shape .lines) (shape .switches) d → Sources d bytes (next .at) sources) where
       no-read : any (shape .width) (readFault (shape .words) (shape .width) file t) ≡ false
-      no-read = sym (sound-all (rowAt bytes (cursor .at) (shape .addressing)) places (shape .width) (shape .cycles) (R .sound) (omega arith) ∙ reads-agree)
+      no-read = sym (sound-all (rowAt bytes (cursor .at) (shape .addressing)) places (shape .width) (shape .cycles) N (omega arith) ∙ reads-agree)
 
       pub carry-refused : true ≡ spareUsed sources (shape .width) (shape .lines)
           → (k : ℕ) (refused : Refusal → ReadOutcome) (end : ReadOutcome)
@@ -163,4 +164,4 @@ module _ (shape : Shape) (cursor : Cursor) (t : ℕ) {file bytes : List ℕ} (S 
         line-passes W =
             let no-write : any (shape .width) (writeFault (shape .words) (shape .width) file t) ≡ false =
             sym (sound-all (rowAt bytes (behind .at) (shape .addressing)) words (shape .width) (shape .cycles) (W .sound) (omega arith) ∙ writes-agree) in
-            gather-more (S .dims) (line e carried) (now-read e carried R none) no-carry G no-read no-write (rw (write-row f) at (W .marked))
+            gather-more (S .dims) (line e carried) (now-read e carried N none) no-carry G no-read no-write (rw (write-row f) at (W .marked))

@@ -9,3 +9,4 @@ pub mod Marks
 pub mod Groups
 pub mod Gathers
 pub mod Known
+pub mod OneField

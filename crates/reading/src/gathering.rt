@@ -16,9 +16,14 @@ ghost use Rattle.reading.specs.declared.Reading.the-variants.{Read};
 ghost use Rattle.reading.specs.inner.Gathering.{Unmarked, Gather, Gathers, Passes, GathersAll};
 use crate::Contents;
 use crate::Reading;
+use crate::narrow::mark;
+use crate::narrow::mark_pair;
+use crate::narrow::pair_in;
+use crate::narrow::pair_unfit;
 use crate::rows::Row;
 use crate::rows::take_reads;
 use crate::rows::take_writes;
+use crate::rows::unfit;
 use bits::Cursor;
 use limits::MOST_SWITCHES;
 use limits::MOST_WIDTH;
@@ -29,6 +34,7 @@ use refusal::Refusal;
 use tables::Opened;
 use tables::Pass;
 use tables::Shape;
+use tables::address_in;
 use tables::cursor_at;
 use tables::open;
 use tables::sources;
@@ -46,9 +52,77 @@ enum Gathered {
     Refused(Refusal),
 }
 
-// Line t, which begins at the cursor: 9, 10 and 11, and its words and their places are marked with each other. It says the same of every file that
-// these bytes read as. The bytes are at least eight.
-fn gather_line(
+// `gather_line` of a set of width 1: the line is one field, with no switch bit.
+fn one_line(
+    bytes: &[u8],
+    cursor: Cursor,
+    shape: Shape,
+    t: usize,
+    places: &mut [u16],
+    words: &mut [u16],
+) -> Tested
+    requires { ⌜ Shaped shape × Room cursor (lineBits (shape .words) (shape .width)) × (8 ≤ length (now bytes)) ⌝ }
+    requires { ⌜ (shape .width ≡ 1) × (shape .words ≤ length (now places)) × (shape .words ≤ length (now words)) ⌝ }
+    requires { ⌜ cursor .at ≡ lineAt (shape .words) (shape .width) t ⌝ }
+    ensures { λ r. ⌜ ((file : List ℕ) → WithZeros file (now (bytes .entry))
+        → Gather (shape .words) (shape .width) file t (now (places .entry)) (now (words .entry))
+        → Gathers (shape .words) (shape .width) file t cursor r (now (places .exit)) (now (words .exit))) ⌝ }
+{
+    let size = shape.addressing;
+    let line = bits::next_field(bytes, cursor, shape.stride);
+    let word = address_in(line.value, size, size);
+    if unfit(word, 0, shape, places) {
+        return Tested::Refused(Refusal::ReadAddress(t));
+    }
+    let place = address_in(line.value, 0, size);
+    if unfit(place, 0, shape, words) {
+        return Tested::Refused(Refusal::WriteAddress(t));
+    }
+    mark(word, place, places, words);
+    let end = line.rest;
+    Tested::Passed(Pass {
+        cursor: end,
+        crossed: 0,
+    })
+}
+
+// `gather_line` of a set of width 2: the line is one field, with one switch bit between its addresses.
+fn two_line(
+    bytes: &[u8],
+    cursor: Cursor,
+    shape: Shape,
+    t: usize,
+    places: &mut [u16],
+    words: &mut [u16],
+) -> Tested
+    requires { ⌜ Shaped shape × Room cursor (lineBits (shape .words) (shape .width)) × (8 ≤ length (now bytes)) ⌝ }
+    requires { ⌜ (shape .width ≡ 2) × (shape .words ≤ length (now places)) × (shape .words ≤ length (now words)) ⌝ }
+    requires { ⌜ cursor .at ≡ lineAt (shape .words) (shape .width) t ⌝ }
+    ensures { λ r. ⌜ ((file : List ℕ) → WithZeros file (now (bytes .entry))
+        → Gather (shape .words) (shape .width) file t (now (places .entry)) (now (words .entry))
+        → Gathers (shape .words) (shape .width) file t cursor r (now (places .exit)) (now (words .exit))) ⌝ }
+{
+    let size = shape.addressing;
+    let line = bits::next_field(bytes, cursor, shape.stride);
+    let reads = pair_in(line.value, 2 * size + 1, size);
+    if pair_unfit(reads, shape, places) {
+        return Tested::Refused(Refusal::ReadAddress(t));
+    }
+    let writes = pair_in(line.value, 0, size);
+    if pair_unfit(writes, shape, words) {
+        return Tested::Refused(Refusal::WriteAddress(t));
+    }
+    let bit = address_in(line.value, 2 * size, 1);
+    mark_pair(bit, reads, writes, places, words);
+    let end = line.rest;
+    Tested::Passed(Pass {
+        cursor: end,
+        crossed: bit,
+    })
+}
+
+// `gather_line` of a set of any width.
+fn wide_line(
     bytes: &[u8],
     cursor: Cursor,
     shape: Shape,
@@ -84,6 +158,46 @@ fn gather_line(
             }
         }
     }
+}
+
+// Line t, which begins at the cursor: 9, 10 and 11, and its words and their places are marked with each other. It says the same of every file that
+// these bytes read as. The bytes are at least eight. Lines of one field have functions of their own, which take a third of the time.
+fn gather_line(
+    bytes: &[u8],
+    cursor: Cursor,
+    shape: Shape,
+    t: usize,
+    setting: &mut [u8],
+    reads: &mut [u16],
+    standing: &mut [u8],
+    places: &mut [u16],
+    words: &mut [u16],
+) -> Tested
+    requires { ⌜ Shaped shape × Room cursor (lineBits (shape .words) (shape .width)) × (8 ≤ length (now bytes)) ⌝ }
+    requires { ⌜ (length (now setting) ≡ mostSwitches) × (length (now reads) ≡ mostWidth) × (length (now standing) ≡ mostWidth)
+        × (shape .words ≤ length (now places)) × (shape .words ≤ length (now words)) ⌝ }
+    requires { ⌜ cursor .at ≡ lineAt (shape .words) (shape .width) t ⌝ }
+    ensures { λ r. ⌜ ((file : List ℕ) → WithZeros file (now (bytes .entry))
+        → Gather (shape .words) (shape .width) file t (now (places .entry)) (now (words .entry))
+        → Gathers (shape .words) (shape .width) file t cursor r (now (places .exit)) (now (words .exit))) ⌝ }
+{
+    if shape.width == 1 {
+        return one_line(bytes, cursor, shape, t, places, words);
+    }
+    if shape.width == 2 {
+        return two_line(bytes, cursor, shape, t, places, words);
+    }
+    wide_line(
+        bytes,
+        cursor,
+        shape,
+        t,
+        setting,
+        reads,
+        standing,
+        places,
+        words,
+    )
 }
 
 // The place of each word and the word of each place, over all lines. The arrays hold no marks at first.

@@ -1,5 +1,6 @@
 // Reading a table set: which permutation it performs, or why none.
 mod gathering;
+mod narrow;
 mod rows;
 
 pub use gathering::read;

@@ -1,5 +1,6 @@
 // The two rows of addresses of a line. Several addresses are taken as one field, and each is tested and used as it is taken.
 ghost use mathlib.Core.Path.{_≡_};
+ghost use mathlib.Core.Bool.{false};
 ghost use mathlib.Core.List.{List};
 ghost use Prim.Native.Nat.{ℕ, _+_, _*_, _<_, _≤_};
 ghost use lib.ListN.{length, getD};
@@ -8,7 +9,7 @@ ghost use Rattle.bits.specs.Bits.{field};
 ghost use Rattle.bits.specs.inner.Taking.{mostField, Room};
 ghost use Rattle.tables.specs.Format.{Shaped};
 ghost use Rattle.tables.specs.inner.Lines.{rowAt};
-ghost use Rattle.reading.specs.inner.Rows.{ReadOn, ReadTo, RowRead, Sending, WriteOn, WriteTo, RowWritten};
+ghost use Rattle.reading.specs.inner.Rows.{Sound, SoundTo, ReadOn, ReadTo, RowRead, Sending, WriteOn, WriteTo, RowWritten};
 use bits::Cursor;
 use limits::NO_WORD;
 use tables::Shape;
@@ -24,6 +25,19 @@ pub enum Row {
     Faulty,
 }
 
+// Whether the address of bank b is outside the frame or its mark is set.
+pub fn unfit(address: usize, b: usize, shape: Shape, marks: &[u16]) -> bool
+    requires { ⌜ Shaped shape × (b < shape .width) × (shape .words ≤ length (now marks)) ⌝ }
+    ensures { λ r. ⌜ (r ≡ false → address < shape .cycles) × ((addresses : List ℕ) → getD addresses b 0 ≡ address
+        → Sound addresses (now (marks .entry)) (shape .width) (shape .cycles) b
+        → SoundTo r addresses (now (marks .entry)) (shape .width) (shape .cycles) (b + 1)) ⌝ }
+{
+    if shape.cycles <= address {
+        return true;
+    }
+    marks[address * shape.width + b] != NO_WORD
+}
+
 // Bank b reads at this address: its word is put in `reads`. Whether the address is outside the frame or the word is
 // marked.
 fn read_word(address: usize, b: usize, shape: Shape, places: &[u16], reads: &mut [u16]) -> bool
@@ -32,14 +46,10 @@ fn read_word(address: usize, b: usize, shape: Shape, places: &[u16], reads: &mut
         → ReadOn addresses (now (places .entry)) shape b (now (reads .entry))
         → ReadTo r addresses (now (places .entry)) shape (b + 1) (now (reads .exit))) ⌝ }
 {
-    if shape.cycles <= address {
+    if unfit(address, b, shape, places) {
         return true;
     }
-    let word = address * shape.width + b;
-    if places[word] != NO_WORD {
-        return true;
-    }
-    reads[b] = word as u16;
+    reads[b] = (address * shape.width + b) as u16;
     false
 }
 

@@ -5,7 +5,7 @@ use mathlib.Core.Path.{_≡_}
 use mathlib.Core.Bool.{Bool, true, false, not}
 use mathlib.Core.List.{List}
 use lib.Dec.{leb, eqb}
-use lib.ListN.{length, getD}
+use lib.ListN.{length, getD, set}
 use Rattle.limits.specs.Limits.{noWord}
 use Rattle.laws.specs.Choice.{choose}
 use Rattle.laws.specs.Any.{any}
@@ -82,3 +82,7 @@ pub record Marked (reads sources writes : List ℕ) (w j : ℕ) (places₀ words
   pub worded : (k : ℕ) → k < j → getD words (placeAt writes w k) 0 ≡ wordAt reads sources w k
   pub kept : (i : ℕ) → ((k : ℕ) → k < j → wordAt reads sources w k ≡ i → ⊥) → getD places i 0 ≡ getD places₀ i 0
   pub kept′ : (i : ℕ) → ((k : ℕ) → k < j → placeAt writes w k ≡ i → ⊥) → getD words i 0 ≡ getD words₀ i 0
+
+-- one word and one place were marked with each other
+abbrev pub MarkedWith : ℕ → ℕ → List ℕ → List ℕ → List ℕ → List ℕ → Type 0
+MarkedWith word place places₀ words₀ places words = (places ≡ set places₀ word place) × (words ≡ set words₀ place word)

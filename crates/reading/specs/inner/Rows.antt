@@ -9,6 +9,7 @@ use Rattle.bits.specs.Reading.{onward}
 use Rattle.bits.specs.declared.reader.Cursor.{Cursor}
 use Rattle.tables.specs.declared.Shape.{Shape}
 use Rattle.reading.specs.inner.Gathering.{faultAt, faulty, wordAt, Marked}
+use Rattle.reading.specs.declared.narrow.Pair.{Pair}
 use Rattle.reading.specs.declared.rows.Row.{Row}
 use Rattle.reading.specs.declared.rows.Row.the-variants.{Passed, Faulty}
 
@@ -16,6 +17,11 @@ use Rattle.reading.specs.declared.rows.Row.the-variants.{Passed, Faulty}
 pub record Sound (addresses marks : List ℕ) (w c k : ℕ) : Type 0 where
   pub upto : k ≤ w
   pub none : (i : ℕ) → i < k → faultAt addresses marks w c i ≡ false
+
+-- what the search for a fault among the first k addresses says
+pub record SoundTo (r : Bool) (addresses marks : List ℕ) (w c k : ℕ) : Type 0 where
+  pub found : r ≡ true → true ≡ faulty addresses marks w c
+  pub none : r ≡ false → Sound addresses marks w c k
 
 -- the words that the banks below k read stand in `reads`
 pub record Kept (addresses : List ℕ) (w k : ℕ) (reads : List ℕ) : Type 0 where
@@ -62,3 +68,15 @@ RowWritten (Passed next) cursor addresses sources writes shape places₀ words�
     (next ≡ onward cursor (shape .width * shape .addressing))
     × WriteOn addresses sources writes shape places₀ words₀ (shape .width) places words
 RowWritten Faulty cursor addresses sources writes shape places₀ words₀ places words = true ≡ faulty writes words₀ (shape .width) (shape .cycles)
+
+-- ---- width 2
+
+-- the two addresses of a row
+pub record Paired (addresses : List ℕ) (pair : Pair) : Type 0 where
+  pub first : getD addresses 0 0 ≡ pair .first
+  pub second : getD addresses 1 0 ≡ pair .second
+
+-- they are those of words or places below n
+pub record Inside (pair : Pair) (n : ℕ) : Type 0 where
+  pub first : pair .first * 2 < n
+  pub second : pair .second * 2 + 1 < n

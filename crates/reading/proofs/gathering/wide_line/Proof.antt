@@ -1,4 +1,4 @@
--- `reading::gathering::gather_line` meets its contract: the cursor is carried on from the read addresses to the switch bits and to the write addresses, and
+-- `reading::gathering::wide_line` meets its contract: the cursor is carried on from the read addresses to the switch bits and to the write addresses, and
 -- what is found there is what the scan of the file finds in line t.
 use Prim.Native.Nat.{ℕ, _+_, _*_}
 use mathlib.Core.Path.{_≡_, subst, sym, ap, _∙_}
@@ -19,8 +19,8 @@ use Rattle.reading.specs.inner.Rows.{RowRead, RowWritten}
 use Rattle.reading.specs.declared.rows.Row.{Row}
 use Rattle.reading.specs.declared.rows.Row.the-variants.{Passed}
 use Rattle.reading.proofs.Known.{readsOf, zeros-self, send, read-refused, carry-refused, write-refused, line-passes}
-use Rattle.reading.proofs.gathering.gather_line.Statement.{statement}
-use Rattle.reading.proofs.gathering.gather_line.Tie as tie
+use Rattle.reading.proofs.gathering.wide_line.Statement.{statement}
+use Rattle.reading.proofs.gathering.wide_line.Tie as tie
 
 -- ---- the places
 
@@ -112,7 +112,8 @@ writes-told c r e file Z =
     (rowAt (a .bytes .now) (behind .at) (a .shape .addressing)) (a .shape) (a .places .now) (a .words .now)
     (c .take-writes .last .1 .1 .1 .1 .1 .0) (c .take-writes .last .1 .1 .1 .1 .1 .1 .0) in
     subst Says e (c .take-writes .ensures (readsOf (a .shape .words) (a .shape .width) file (a .t))
-    (send (a .shape) (a .cursor) (a .t) (s .pre .0 .0) Z (s .pre .1 .1) (told .0) (d .sources .ensures .2) (told .1) (none-spare (passed c))))
+    (send (a .shape) (a .cursor) (a .t) (s .pre .0 .0) Z (s .pre .1 .1) (told .0) (d .sources .ensures .2) (told .1 .sound) (none-spare (passed c))
+    (told .1 .kept)))
 
 take-reads-requires : tie.Need-take-reads-requires
 take-reads-requires c κs =
@@ -157,7 +158,7 @@ returns c file Z G k refused next =
     let d = carried (c .before) in
     let s = begun d in
     let told = reads-passed (behind-reads d) in
-    carry-refused (s .args .shape) (s .args .cursor) (s .args .t) (s .pre .0 .0) Z (s .pre .1 .1) G (told .0) (told .1) (d .sources .ensures .2)
+    carry-refused (s .args .shape) (s .args .cursor) (s .args .t) (s .pre .0 .0) Z (s .pre .1 .1) G (told .0) (told .1 .sound) (d .sources .ensures .2)
     (sym (c .if1 .taken) ∙ c .before .spare-used .ensures) k refused next
 
 take-writes-requires : tie.Need-take-writes-requires
@@ -173,7 +174,7 @@ take-writes-requires c κs =
         (
           readsOf (s .args .shape .words) (s .args .shape .width) (s .args .bytes .now) (s .args .t),
           send (s .args .shape) (s .args .cursor) (s .args .t) (s .pre .0 .0) (zeros-self (s .pre .0 .2)) (s .pre .1 .1) (told .0) (d .sources .ensures .2)
-              (told .1) (none-spare (c .before .before .before .before .before)),
+              (told .1 .sound) (none-spare (c .before .before .before .before .before)) (told .1 .kept),
         ),
       ),
     )
@@ -217,7 +218,7 @@ returns-3 c file Z G k refused next =
     let d = sent w in
     let s = begun d in
     let told = reads-passed (behind-reads d) in
-    write-refused (s .args .shape) (s .args .cursor) (s .args .t) (s .pre .0 .0) Z (s .pre .1 .1) G (told .0) (told .1) (d .sources .ensures .2)
+    write-refused (s .args .shape) (s .args .cursor) (s .args .t) (s .pre .0 .0) Z (s .pre .1 .1) G (told .0) (told .1 .sound) (d .sources .ensures .2)
     (switches-behind d) (none-spare (passed w)) (writes-told w _ (c .enum-told2 .given .1) file Z) k refused next
 
 same-length-12 : tie.Need-same-length-12
@@ -247,12 +248,12 @@ returns-4 c file Z G =
     let crossed = crossings-read _ _ (a .bytes .now) (a .cursor) (shape-same (s .pre .0 .0)) (told .0) (a .t) (s .pre .1 .1) (d .sources .ensures .1) in (
       end ∙ ap (onward (a .cursor)) (fits-known s .all),
       crossed ∙ crossings-zeros Z (a .shape .words) (a .shape .width) (a .t),
-      line-passes (a .shape) (a .cursor) (a .t) (s .pre .0 .0) Z (s .pre .1 .1) G (told .0) (told .1) (d .sources .ensures .2) (switches-behind d)
+      line-passes (a .shape) (a .cursor) (a .t) (s .pre .0 .0) Z (s .pre .1 .1) G (told .0) (told .1 .sound) (d .sources .ensures .2) (switches-behind d)
           (none-spare (passed w)) (wrote .1),
     )
 
-pub gather-line-spec : {M : Type 1} → statement M
-gather-line-spec =
+pub wide-line-spec : {M : Type 1} → statement M
+wide-line-spec =
     tie.close
     (tie.spec
     take-reads-requires
