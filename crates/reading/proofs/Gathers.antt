@@ -172,7 +172,8 @@ module _ {n w : ℕ} {file : List ℕ} {t : ℕ} {reads sources writes : List �
   }
 
   -- from here on line t passes
-  module _ {places words : List ℕ} (G : Gather n w file t places words) (no-read : any w (readFault n w file t) ≡ false) (no-write : any w (writeFault n w file t) ≡ false) where
+  module _ {places words : List ℕ} (G : Gather n w file t places words) (no-read : any w (readFault n w file t) ≡ false)
+      (no-write : any w (writeFault n w file t) ≡ false) where
     fresh-read : (s b : ℕ) → s < t → b < w → readAddress n w file s b ≡ readAddress n w file t b → ⊥
     unfolding readFault
     fresh-read s b l m = sound-fresh (cycles n w) (λ z. readAddress n w file z b) t (any-false w (readFault n w file t) no-read b m) s l

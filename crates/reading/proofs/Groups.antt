@@ -64,7 +64,8 @@ module _ {addresses sources writes places₀ words₀ places words : List ℕ} {
   write-faulty below marked = fault-marked writes words₀ (shape .width) (shape .cycles) k l (rw e below) (rw (e, sym untouched) marked)
 
   -- one bank more
-  pub write-more : {reads : List ℕ} → Sending addresses sources reads (shape .words) (shape .width) → address < shape .cycles → getD words (address * shape .width + k) 0 ≡ noWord
+  pub write-more : {reads : List ℕ} → Sending addresses sources reads (shape .words) (shape .width) → address < shape .cycles
+      → getD words (address * shape .width + k) 0 ≡ noWord
       → shape .words ≤ length places → address * shape .width + k < length words
       → WriteOn addresses sources writes shape places₀ words₀ (k + 1)
       (set places (getD reads (getD sources k 0) 0) (address * shape .width + k)) (set words (address * shape .width + k) (getD reads (getD sources k 0) 0))

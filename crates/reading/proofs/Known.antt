@@ -90,7 +90,8 @@ module _ (shape : Shape) (cursor : Cursor) (t : ℕ) {file bytes : List ℕ} (S 
       → rowAt bytes (behind .at) (shape .addressing) ≡ writesOf (shape .words) (shape .width) file t
   unfolding addressRow
   write-row {behind} e =
-      let row : shape .width * shape .addressing ≡ shape .width * addressBits (shape .words) (shape .width) = ap (λ (a : ℕ). shape .width * a) (S .addressing) in
+      let row : shape .width * shape .addressing ≡ shape .width * addressBits (shape .words) (shape .width) =
+      ap (λ (a : ℕ). shape .width * a) (S .addressing) in
       let at : behind .at ≡ lineAt (shape .words) (shape .width) t + addressRow (shape .words) (shape .width) + switchBits (shape .width) =
       ap (λ (x : Cursor). x .at) e ∙ omega (arith, stands, row, S .switches) in
       row-zeros Z (behind .at) (shape .addressing) ∙ ap₂ (rowAt file) at (S .addressing)

@@ -190,7 +190,8 @@ module _ (cursor : Cursor) (t : ℕ) {shape : Shape} {w s : ℕ} {bytes sources 
     (carried : (d : ℕ) → Sized (shape .lines) (shape .switches) d → Sources d bytes (cursor .at + shape .width * shape .addressing) sources)
     {places words file : List ℕ} (Z : WithZeros file bytes) (G : Gather (shape .words) (shape .width) file t places words)
     (R : Sound (rowAt bytes (cursor .at) (shape .addressing)) places (shape .width) (shape .cycles) w) where
-  whole : {addresses marks : List ℕ} → Sound addresses marks (shape .width) (shape .cycles) w → Sound addresses marks (shape .width) (shape .cycles) (shape .width)
+  whole : {addresses marks : List ℕ} → Sound addresses marks (shape .width) (shape .cycles) w
+      → Sound addresses marks (shape .width) (shape .cycles) (shape .width)
   whole {addresses} {marks} A = subst (λ (k : ℕ). Sound addresses marks (shape .width) (shape .cycles) k) (sym (N .width)) A
 
   pub narrow-refused : true ≡ faulty (rowAt bytes (behind shape cursor .at) (shape .addressing)) words (shape .width) (shape .cycles)

@@ -1,4 +1,5 @@
-// The lines of width 1 and 2. Their addresses are so few that they are held without arrays, and each line is one field.
+// The lines of width 1 and 2. Their addresses are so few that they are held without arrays, and each line is one field. This module is private to the
+// crate, so its functions may have a `requires`.
 ghost use mathlib.Core.Path.{_≡_};
 ghost use mathlib.Core.List.{List};
 ghost use Prim.Native.Nat.{ℕ, _+_, _*_, _-_, _<_, _≤_};

@@ -1,4 +1,5 @@
-// The two rows of addresses of a line. Several addresses are taken as one field, and each is tested and used as it is taken.
+// The two rows of addresses of a line. Several addresses are taken as one field, and each is tested and used as it is taken. This module is private
+// to the crate, so its functions may have a `requires`.
 ghost use mathlib.Core.Path.{_≡_};
 ghost use mathlib.Core.Bool.{false};
 ghost use mathlib.Core.List.{List};

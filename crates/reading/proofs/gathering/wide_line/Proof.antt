@@ -61,7 +61,8 @@ reads-told : (c : tie.After-take-reads) (r : Row) → c .take-reads .result ≡ 
 reads-told c r e =
     let a = start c .args in
     let Says : Row → Type 0 =
-    λ r. RowRead r (a .cursor) (rowAt (a .bytes .now) (a .cursor .at) (a .shape .addressing)) (a .places .now) (a .shape) (c .take-reads .last .1 .1 .1 .1 .0) in
+    λ r. RowRead r (a .cursor) (rowAt (a .bytes .now) (a .cursor .at) (a .shape .addressing)) (a .places .now) (a .shape)
+    (c .take-reads .last .1 .1 .1 .1 .0) in
     subst Says e (c .take-reads .ensures)
 
 -- they passed

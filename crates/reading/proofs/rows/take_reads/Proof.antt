@@ -56,7 +56,9 @@ more c = c .before .if1 .taken
 
 left-few : (c : tie.After-struct-known4 Inv-loop μ-loop) → let a = start (over c) .args in
     (a .shape .width - over c .loop .b) * a .shape .addressing ≤ 42
-left-few c = let s = start (over c) in rest-few (s .args .shape .width) (over c .loop .b) (s .args .shape .addressing) (c .before .before .before .if1 .left) (few s)
+left-few c =
+    let s = start (over c) in
+    rest-few (s .args .shape .width) (over c .loop .b) (s .args .shape .addressing) (c .before .before .before .if1 .left) (few s)
 
 left-fits : (c : tie.After-struct-known4 Inv-loop μ-loop) → let a = start (over c) .args in
     let b = over c .loop .b in

@@ -59,7 +59,9 @@ more c = c .before .if1 .taken
 
 left-few : (c : tie.After-struct-known4 Inv-loop μ-loop) → let a = start (over c) .args in
     (a .shape .width - over c .loop .k) * a .shape .addressing ≤ 42
-left-few c = let s = start (over c) in rest-few (s .args .shape .width) (over c .loop .k) (s .args .shape .addressing) (c .before .before .before .if1 .left) (few s)
+left-few c =
+    let s = start (over c) in
+    rest-few (s .args .shape .width) (over c .loop .k) (s .args .shape .addressing) (c .before .before .before .if1 .left) (few s)
 
 left-fits : (c : tie.After-struct-known4 Inv-loop μ-loop) → let a = start (over c) .args in
     let k = over c .loop .k in
