@@ -13,8 +13,9 @@ use Rattle.tables.proofs.Targets.{carriedTo-injective}
 use Rattle.tables.proofs.Within.{Within}
 use Rattle.machine.specs.Step.{spot, moving, entering}
 use Rattle.machine.specs.declared.Clock.{Clock}
+use Rattle.machine.specs.inner.Rows.{stored}
 use Rattle.machine.proofs.Spots.{spot-injective, spot-fits}
-use Rattle.machine.proofs.Stores.{stored, length-stored, stored-other, stored-at, stored-ext}
+use Rattle.machine.proofs.Stores.{length-stored, stored-other, stored-at, stored-ext}
 
 -- ---- the spots of a step, at cycle t and half h
 
@@ -99,8 +100,9 @@ module _ (n w : ℕ) (file : List ℕ) (clock : Clock) (second : List ℕ) where
       → moving n w file clock first w second ≡ moving n w file clock first′ w second
   moving-ext first first′ same =
       simp moving-stored
-      (stored-ext (writeSpot n w file (clock .half) (clock .cycle)) (λ a. getD first (readSpot n w file (clock .half) (clock .cycle) a) 0)
-      (λ a. getD first′ (readSpot n w file (clock .half) (clock .cycle) a) 0) w second same)
+      (stored-ext (writeSpot n w file (clock .half) (clock .cycle)) (writeSpot n w file (clock .half) (clock .cycle))
+      (λ a. getD first (readSpot n w file (clock .half) (clock .cycle) a) 0) (λ a. getD first′ (readSpot n w file (clock .half) (clock .cycle) a) 0)
+      w second (λ a l. refl) same)
 
 -- a position at which no bank takes a word: bank k takes at its write address
 pub moving-untaken : {n w : ℕ} {file : List ℕ} (clock : Clock) → Within n w file (clock .cycle) → (first second : List ℕ) (j : ℕ)

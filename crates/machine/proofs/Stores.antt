@@ -8,10 +8,7 @@ use native.Mathlib.Decide.{ℕ-discrete}
 use lib.ListN.{length, getD, set, length-set}
 use lib.Seq.{getD-set-same, getD-set-other}
 use Rattle.laws.specs.Permutation.{Injective}
-
-unfoldable pub stored : (ℕ → ℕ) → (ℕ → ℕ) → ℕ → List ℕ → List ℕ
-stored place value zero memory = memory
-stored place value (suc b) memory = set (stored place value b memory) (place b) (value b)
+use Rattle.machine.specs.inner.Rows.{stored}
 
 module _ (place value : ℕ → ℕ) where
   pub length-stored : (b : ℕ) (memory : List ℕ) → length (stored place value b memory) ≡ length memory
@@ -38,10 +35,14 @@ module _ (place value : ℕ → ℕ) where
         ∙ stored-at b memory (λ i j k m. once i j (omega arith) (omega arith)) a (omega arith) fits
   ]
 
--- values that agree below b are stored alike
-pub stored-ext : (place value value′ : ℕ → ℕ) (b : ℕ) (memory : List ℕ) → ((a : ℕ) → a < b → value a ≡ value′ a)
-    → stored place value b memory ≡ stored place value′ b memory
+-- places and values that agree below b are stored alike
+pub stored-ext : (place place′ value value′ : ℕ → ℕ) (b : ℕ) (memory : List ℕ) → ((a : ℕ) → a < b → place a ≡ place′ a)
+    → ((a : ℕ) → a < b → value a ≡ value′ a) → stored place value b memory ≡ stored place′ value′ b memory
 unfolding stored
-stored-ext place value value′ zero memory same = refl
-stored-ext place value value′ (suc b) memory same =
-    rw (stored-ext place value value′ b memory (λ a l. same a (omega arith)), same b (omega arith))
+stored-ext place place′ value value′ zero memory there same = refl
+stored-ext place place′ value value′ (suc b) memory there same =
+    rw (
+      stored-ext place place′ value value′ b memory (λ a l. there a (omega arith)) (λ a l. same a (omega arith)),
+      there b (omega arith),
+      same b (omega arith),
+    )

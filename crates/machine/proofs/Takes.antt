@@ -11,22 +11,21 @@ use lib.Dec.{eqb}
 use lib.ListN.{length, getD, set}
 use lib.Seq.{ext-getD}
 use borrow.Author.Tests.{eqb-true, eqb-false}
-use Rattle.limits.specs.Limits.{mostWidth}
 use Rattle.laws.specs.Any.{any}
 use Rattle.laws.specs.Permutation.{Injective, Permutes}
 use Rattle.laws.proofs.Anys.{any-true, any-false}
 use Rattle.laws.proofs.Permutations.{onto}
 use Rattle.tables.specs.Terms.{cycles}
 use Rattle.tables.specs.Datapath.{carriedTo}
-use Rattle.tables.specs.inner.Lines.{Line}
 use Rattle.tables.proofs.Dims.{depth-reaches}
-use Rattle.tables.proofs.Lined.{read-is, write-is, source-is}
+use Rattle.tables.proofs.Lined.{Line, read-is, write-is, source-is}
 use Rattle.tables.proofs.Targets.{carriedTo-injective}
 use Rattle.tables.proofs.Within.{Within}
 use Rattle.machine.specs.Step.{spot, moving}
 use Rattle.machine.specs.declared.Clock.{Clock}
+use Rattle.machine.specs.inner.Rows.{stored}
 use Rattle.machine.proofs.Spots.{spot-injective}
-use Rattle.machine.proofs.Stores.{stored, length-stored, stored-other, stored-at}
+use Rattle.machine.proofs.Stores.{length-stored, stored-other, stored-at}
 
 -- ---- stores in another order
 
@@ -78,15 +77,6 @@ takeSpot c h writes k = spot c h k (getD writes k 0)
 abbrev pub takenWord : ℕ → ℕ → List ℕ → List ℕ → List ℕ → ℕ → ℕ
 takenWord c h first reads sources k = getD first (spot c (1 - h) (getD sources k 0) (getD reads (getD sources k 0) 0)) 0
 
--- what a line was found to do, within its bounds
-pub record Takes (n w : ℕ) (reads sources writes : List ℕ) : Type 0 where
-  pub reads-long : length reads ≡ mostWidth
-  pub sources-long : length sources ≡ mostWidth
-  pub writes-long : length writes ≡ mostWidth
-  pub reads-below : (b : ℕ) → b < w → getD reads b 0 < cycles n w
-  pub sources-below : (k : ℕ) → k < w → getD sources k 0 < w
-  pub writes-below : (k : ℕ) → k < w → getD writes k 0 < cycles n w
-
 module _ {n w : ℕ} {file : List ℕ} {t : ℕ} (I : Within n w file t) where
   -- a line within bounds permutes the banks
   pub banks-permute : Permutes w (carriedTo n w file t)
@@ -97,18 +87,15 @@ module _ {n w : ℕ} {file : List ℕ} {t : ℕ} (I : Within n w file t) where
     pub bank-stands : (b : ℕ) → b < w → getD sources (carriedTo n w file t b) 0 ≡ b
     bank-stands b l = source-is L b (omega (arith, depth-reaches w))
 
-    pub line-takes : Takes n w reads sources writes
-    line-takes = record {
-      reads-long = L .reading .long;
-      sources-long = L .carrying .long;
-      writes-long = L .writing .long;
-      reads-below = λ b l. rw (read-is L b l) (I .reads b l);
-      sources-below = λ k l.
-          let r = onto w (carriedTo n w file t) banks-permute k l in
-          let e : getD sources k 0 ≡ r .0 = ap (λ (z : ℕ). getD sources z 0) (sym (r .2)) ∙ bank-stands (r .0) (r .1) in
-          rw e (r .1);
-      writes-below = λ k l. rw (write-is L k l) (I .writes k l);
-    }
+    -- bank k takes from a bank
+    pub sources-below : (k : ℕ) → k < w → getD sources k 0 < w
+    sources-below k l =
+        let r = onto w (carriedTo n w file t) banks-permute k l in
+        let e : getD sources k 0 ≡ r .0 = ap (λ (z : ℕ). getD sources z 0) (sym (r .2)) ∙ bank-stands (r .0) (r .1) in
+        rw e (r .1)
+
+    writes-below : (k : ℕ) → k < w → getD writes k 0 < cycles n w
+    writes-below k l = rw (write-is L k l) (I .writes k l)
 
 module _ {n w : ℕ} {file reads sources writes : List ℕ} (clock : Clock) (half : clock .half < 2) (I : Within n w file (clock .cycle))
     (L : Line n w file (clock .cycle) reads sources writes) (first : List ℕ) where
@@ -121,8 +108,7 @@ module _ {n w : ℕ} {file reads sources writes : List ℕ} (clock : Clock) (hal
   -- no two banks take at one spot
   take-injective : Injective w (takeSpot c (clock .half) writes)
   take-injective a b l m e =
-      let T = line-takes I L in
-      spot-injective c (clock .half) a (getD writes a 0) half (T .writes-below a l) (clock .half) b (getD writes b 0) half (T .writes-below b m) e .1
+      spot-injective c (clock .half) a (getD writes a 0) half (writes-below I L a l) (clock .half) b (getD writes b 0) half (writes-below I L b m) e .1
 
   -- the banks that give, each with the bank to which its word goes
   banks-give : (b : ℕ) (second : List ℕ) → b ≤ w

@@ -4,6 +4,7 @@ ghost use Prim.Native.Nat.{_+_, _-_, min};
 ghost use Rattle.machine.specs.Step.{fresh, nextClock, nextFrame};
 
 mod lent;
+mod rows;
 mod stepping;
 
 pub use lent::step_lent;

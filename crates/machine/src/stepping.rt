@@ -1,6 +1,5 @@
 // One step on lent memories: the tests in their order, then the line that moves, the words that leave and the words that enter.
 ghost use mathlib.Core.Path.{_≡_};
-ghost use mathlib.Core.Bool.{false};
 ghost use mathlib.Core.List.{List};
 ghost use Prim.Native.Nat.{ℕ, _*_, _-_, _<_, _≤_};
 ghost use lib.ListN.{length, getD, set};
@@ -9,23 +8,25 @@ ghost use Rattle.laws.specs.Tabulate.{overwrite};
 ghost use Rattle.bits.specs.inner.Taking.{WithZeros};
 ghost use Rattle.tables.specs.Terms.{cycles};
 ghost use Rattle.tables.specs.Format.{Shaped};
-ghost use Rattle.tables.specs.Datapath.{strays};
-ghost use Rattle.tables.specs.inner.Lines.{Line};
-ghost use Rattle.machine.specs.Step.{spot, leaving, moving, entering, movedCrossings, saysOf, stepOutcome, stepOf};
+ghost use Rattle.machine.specs.Step.{spot, leaving, entering, movedCrossings, saysOf, stepOutcome, stepOf};
 ghost use Rattle.machine.specs.inner.Ready.{Room, InRange, lineOutcome, testOf, moveOf, readyOf};
 use crate::Advance;
 use crate::Clock;
 use crate::Stepped;
+use crate::rows::Row;
+use crate::rows::aim;
+use crate::rows::fetch;
+use crate::rows::put_words;
+use crate::rows::spot_of;
 use limits::MOST_SWITCHES;
 use limits::MOST_WIDTH;
 use refusal::Refusal;
 use tables::Opened;
 use tables::Shape;
 use tables::address_in;
-use tables::any_from;
 use tables::cursor_at;
-use tables::line_at;
 use tables::open;
+use tables::sources;
 use tables::spare_used;
 
 // The lengths of what a step is lent.
@@ -79,78 +80,45 @@ fn test(shape: Shape, clock: Clock, lent: Lengths) -> Tested
     Tested::Passed
 }
 
-// The word of a memory at an address of a half of a bank.
-fn spot_of(shape: Shape, half: usize, bank: usize, address: usize) -> usize
-    requires { ⌜ Shaped shape ⌝ }
-    requires { ⌜ (half < 2) × (bank < shape .width) × (address < cycles (shape .words) (shape .width)) ⌝ }
-    ensures { λ r. ⌜ (r ≡ spot (cycles (shape .words) (shape .width)) half bank address) × (r < 2 * shape .words) ⌝ }
-{
-    bank * (2 * shape.cycles) + (half * shape.cycles + address)
-}
-
-// The words of a line move from half 1-h of the first memory to half h of the second. Bank k takes the word of the bank that leaves the
-// network on line k. It says the same of every file of which these are the line's moves.
-fn move_words<'a>(
-    shape: Shape,
-    clock: Clock,
-    reads: &'a [u16],
-    sources: &'a [u8],
-    writes: &'a [u16],
-    first: &[u16],
-    second: &mut [u16],
-)
-    requires { ⌜ Shaped shape ⌝ }
-    requires { ⌜ (2 * shape .words ≤ length (now first)) × (2 * shape .words ≤ length (now second)) × (clock .half < 2) ⌝ }
-    requires { ⌜ ((file : List ℕ)
-        × Line (shape .words) (shape .width) file (clock .cycle) (now reads) (now sources) (now writes)
-        × (strays (shape .words) (shape .width) file (clock .cycle) ≡ false)) ⌝ }
-    ensures { λ _. ⌜ ((file : List ℕ)
-        → Line (shape .words) (shape .width) file (clock .cycle) (now (reads .entry)) (now (sources .entry)) (now (writes .entry))
-        → strays (shape .words) (shape .width) file (clock .cycle) ≡ false
-        → now (second .exit) ≡ moving (shape .words) (shape .width) file clock (now (first .entry)) (shape .width) (now (second .entry))) ⌝ }
-{
-    let other = 1 - clock.half;
-    let mut k = 0;
-    while k < shape.width {
-        let b = sources[k] as usize;
-        let from = spot_of(shape, other, b, reads[b] as usize);
-        let to = spot_of(shape, clock.half, k, writes[k] as usize);
-        second[to] = first[from];
-        k += 1;
-    }
-}
-
-// The line of a set of width 3 or more: its parts are taken to arrays, and tested and moved there.
-fn move_wide(file: &[u8], shape: Shape, clock: Clock, first: &[u16], second: &mut [u16]) -> Moved
+// The line of a set of any width. Its words are taken from half 1-h of the first memory as their addresses are read, and put in half h of the second
+// once the line has passed all tests.
+fn move_wide(bytes: &[u8], shape: Shape, clock: Clock, first: &[u16], second: &mut [u16]) -> Moved
     requires { ⌜ Shaped shape × InRange (cycles (shape .words) (shape .width)) clock × (1 ≤ clock .fill) ⌝ }
-    requires { ⌜ (2 * shape .words ≤ length (now first)) × (2 * shape .words ≤ length (now second)) ⌝ }
-    ensures { λ r. ⌜ lineOutcome r (now (second .exit))
-        ≡ moveOf (shape .words) (shape .width) (now (file .entry)) clock (now (first .entry)) (now (second .entry)) ⌝ }
+    requires { ⌜ (8 ≤ length (now bytes)) × (2 * shape .words ≤ length (now first)) × (2 * shape .words ≤ length (now second)) ⌝ }
+    ensures { λ r. ⌜ ((file : List ℕ) → WithZeros file (now (bytes .entry)) → lineOutcome r (now (second .exit))
+        ≡ moveOf (shape .words) (shape .width) file clock (now (first .entry)) (now (second .entry))) ⌝ }
 {
+    let t = clock.cycle;
+    let other = 1 - clock.half;
+    let cursor = cursor_at(shape, t);
     let mut setting = [0u8; MOST_SWITCHES];
-    let mut reads = [0u16; MOST_WIDTH];
-    let mut sources = [0u8; MOST_WIDTH];
-    let mut writes = [0u16; MOST_WIDTH];
-    let line = line_at(
-        file,
-        shape,
-        cursor_at(shape, clock.cycle),
-        &mut setting,
-        &mut reads,
-        &mut sources,
-        &mut writes,
-    );
-    if any_from(&reads, shape.width, shape.cycles) {
-        return Moved::Refused(Refusal::ReadAddress(clock.cycle));
+    let mut got = [0u16; MOST_WIDTH];
+    let mut standing = [0u8; MOST_WIDTH];
+    let mut to = [0u16; MOST_WIDTH];
+    match fetch(bytes, cursor, shape, other, first, &mut got) {
+        Row::Faulty => Moved::Refused(Refusal::ReadAddress(t)),
+        Row::Passed(next) => {
+            let carried = sources(
+                bytes,
+                next,
+                shape.lines,
+                shape.switches,
+                &mut setting,
+                &mut standing,
+            );
+            if spare_used(&standing, shape.width, shape.lines) {
+                return Moved::Refused(Refusal::SpareLine(t));
+            }
+            let behind = carried.cursor;
+            match aim(bytes, behind, shape, clock.half, &mut to) {
+                Row::Faulty => Moved::Refused(Refusal::WriteAddress(t)),
+                Row::Passed(_) => {
+                    put_words(shape, &got, &standing, &to, second);
+                    Moved::Crossed(carried.crossed)
+                }
+            }
+        }
     }
-    if spare_used(&sources, shape.width, shape.lines) {
-        return Moved::Refused(Refusal::SpareLine(clock.cycle));
-    }
-    if any_from(&writes, shape.width, shape.cycles) {
-        return Moved::Refused(Refusal::WriteAddress(clock.cycle));
-    }
-    move_words(shape, clock, &reads, &sources, &writes, first, second);
-    Moved::Crossed(line.crossed)
 }
 
 // The word at an address of a bank of the first memory, in half 1-h, moves to an address of a bank of the second, in half h.
@@ -241,11 +209,11 @@ fn move_line(file: &[u8], shape: Shape, clock: Clock, first: &[u16], second: &mu
     if clock.fill < 1 {
         return Moved::Crossed(0);
     }
-    if 2 < shape.width {
-        return move_wide(file, shape, clock, first, second);
-    }
     let replacement = bits::padded(file);
     let bytes = bits::long_enough(file, &replacement);
+    if 2 < shape.width {
+        return move_wide(bytes, shape, clock, first, second);
+    }
     if shape.width == 1 {
         return move_one(bytes, shape, clock, first, second);
     }

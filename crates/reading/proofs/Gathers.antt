@@ -28,13 +28,12 @@ use Rattle.tables.specs.Datapath.{carriedTo, source, target, carryStrays, image
 use Rattle.reading.specs.Reading.{ReadOutcome, readOutcome, readFault, writeFault, contentsOf, readAs, scanLines, readScan, readLines}
 use Rattle.reading.specs.declared.Contents.{Contents}
 use Rattle.reading.specs.declared.Reading.the-variants.{Read, Refused as Unread}
-use Rattle.tables.specs.inner.Lines.{Line}
 use Rattle.reading.specs.inner.Gathering.{faultAt, faulty, wordAt, placeAt, Unmarked, Gather, Marked}
 use Rattle.reading.specs.inner.Rows.{Kept, Sending}
 use Rattle.tables.proofs.Dims.{Dims, word-below, word-injective, depth-reaches}
 use Rattle.tables.proofs.Accepted.{Accepted}
 use Rattle.reading.proofs.Scanned.{Passes, sound-below, sound-fresh, passes-accepted, accepted-scan, scan-passes}
-use Rattle.tables.proofs.Lined.{read-is, write-is, source-is}
+use Rattle.tables.proofs.Lined.{Line, read-is, write-is, source-is}
 use Rattle.tables.proofs.Targets.{source-found, image-permutes}
 
 -- an array that was just made holds no marks

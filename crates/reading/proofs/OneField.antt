@@ -25,13 +25,14 @@ use Rattle.tables.specs.declared.Shape.{Shape}
 use Rattle.tables.specs.inner.Lines.{rowAt, Sources, spareUsed}
 use Rattle.tables.proofs.Dims.{addressBits-few, word-below, word-injective}
 use Rattle.tables.proofs.Opens.{shape-same}
-use Rattle.tables.proofs.Passes.{line-fits, sources-straight, sources-switched, crossings-read, crossings-zeros}
+use Rattle.tables.proofs.Passes.{line-fits, sources-straight, sources-switched}
+use Rattle.tables.proofs.Held.{readsOf, crossings-held}
 use Rattle.reading.specs.Reading.{ReadOutcome, scanLines}
 use Rattle.reading.specs.inner.Gathering.{faulty, wordAt, placeAt, Gather, Marked, MarkedWith}
 use Rattle.reading.specs.inner.Rows.{Sound, Paired, Inside}
 use Rattle.reading.specs.declared.narrow.Pair.{Pair}
 use Rattle.reading.proofs.Marks.{marked-none, marked-more}
-use Rattle.reading.proofs.Known.{readsOf, sound-inside, write-refused, line-passes}
+use Rattle.reading.proofs.Known.{sound-inside, write-refused, line-passes}
 
 -- the numbers of a shape of width w, whose network has s switch bits and no spare line
 pub record Narrow (shape : Shape) (w s : ℕ) : Type 0 where
@@ -208,7 +209,7 @@ module _ (cursor : Cursor) (t : ℕ) {shape : Shape} {w s : ℕ} {bytes sources 
       × Gather (shape .words) (shape .width) file (t + 1) places′ words′
   narrow-passes {places′ = places′} {words′} moved counted W M = (
     moved ∙ ap (onward cursor) (S .stride),
-    crossings-read (shape .words) (shape .width) bytes cursor (shape-same S) refl t stands counted ∙ crossings-zeros Z (shape .words) (shape .width) t,
+    crossings-held shape cursor t S Z stands refl counted,
     line-passes shape cursor t S Z stands G refl (whole R) carried refl (none-spare N sources) (record {
       sound = whole W;
       marked = subst (λ (k : ℕ). Marked (readsOf (shape .words) (shape .width) file t) sources (rowAt bytes (behind shape cursor .at) (shape .addressing)) k k

@@ -29,5 +29,7 @@ pub mod Scans
 pub mod Puts
 pub mod Passes
 pub mod Lined
+pub mod Groups
+pub mod Held
 pub mod Narrow
 pub mod Crossings

@@ -1,25 +1,38 @@
 -- What the code took of a line, in the terms of the definitions: its addresses are those of the line, on the line to which the network
 -- carries x stands x, and so the tests that the code makes are the definitions' tests.
-use Prim.Native.Nat.{ℕ, _+_, _-_, _^_, _<_, _≤_}
+use Prim.Native.Nat.{ℕ, _+_, _*_, _-_, _^_, _<_, _≤_}
 use mathlib.Core.Path.{_≡_, refl, sym, ap, _∙_}
 use mathlib.Core.Bool.{Bool, true, false}
 use mathlib.Core.List.{List}
 use native.Mathlib.Omega.{arith}
 use native.Mathlib.Decide.{decLt}
 use lib.Dec.{leb, ltb}
-use lib.ListN.{getD}
+use lib.ListN.{length, getD}
 use borrow.Author.Tests.{leb-true, leb-false, lt-ltb, le-ltb}
+use Rattle.limits.specs.Limits.{mostWidth}
 use Rattle.laws.specs.Any.{any}
 use Rattle.laws.specs.Permutation.{Permutes}
-use Rattle.laws.proofs.Anys.{any-true, any-false, any-some, any-none, any-ext}
+use Rattle.laws.proofs.Anys.{any-true, any-false, any-some, any-none}
 use Rattle.laws.proofs.Permutations.{onto}
+use Rattle.bits.specs.Bits.{field}
 use Rattle.network.specs.Network.{leaves}
 use Rattle.network.proofs.Leaves.{leaves-permutes}
-use Rattle.tables.specs.Terms.{cycles, depth}
-use Rattle.tables.specs.Format.{readAddress, switchBit, writeAddress}
-use Rattle.tables.specs.Datapath.{carriedTo, readStrays, carryStrays, writeStrays}
-use Rattle.tables.specs.inner.Lines.{Line, spareUsed}
+use Rattle.tables.specs.Terms.{depth, addressBits, switchBits, addressRow}
+use Rattle.tables.specs.Format.{lineAt, readAddress, switchBit, writeAddress}
+use Rattle.tables.specs.Datapath.{carriedTo, carryStrays}
+use Rattle.tables.specs.inner.Lines.{Sources, spareUsed}
 use Rattle.tables.proofs.Dims.{depth-reaches}
+
+-- the addresses that stand from bit `at` on
+pub record Addresses (file : List ℕ) (at address count : ℕ) (found : List ℕ) : Type 0 where
+  pub long : length found ≡ mostWidth
+  pub each : (b : ℕ) → b < count → getD found b 0 ≡ field file (at + b * address) address
+
+-- what line t does
+pub record Line (n w : ℕ) (file : List ℕ) (t : ℕ) (reads sources writes : List ℕ) : Type 0 where
+  pub reading : Addresses file (lineAt n w t) (addressBits n w) w reads
+  pub carrying : Sources (depth w) file (lineAt n w t + addressRow n w) sources
+  pub writing : Addresses file (lineAt n w t + addressRow n w + switchBits w) (addressBits n w) w writes
 
 pub carriedTo-permutes : (n w : ℕ) (file : List ℕ) (t : ℕ) → Permutes (2 ^ depth w) (carriedTo n w file t)
 unfolding carriedTo
@@ -45,16 +58,6 @@ module _ {n w : ℕ} {file : List ℕ} {t : ℕ} {reads sources writes : List �
       let r = onto (2 ^ depth w) (carriedTo n w file t) (carriedTo-permutes n w file t) y l in
       let e : getD sources y 0 ≡ r .0 = ap (λ (z : ℕ). getD sources z 0) (sym (r .2)) ∙ source-is (r .0) (r .1) in
       (rw e (r .1), rw e (r .2))
-
-  pub reads-stray : any w (λ b. leb (cycles n w) (getD reads b 0)) ≡ readStrays n w file t
-  unfolding readStrays
-  reads-stray =
-      any-ext w (λ b. leb (cycles n w) (getD reads b 0)) (λ b. leb (cycles n w) (readAddress n w file t b)) (λ b l. ap (leb (cycles n w)) (read-is b l))
-
-  pub writes-stray : any w (λ k. leb (cycles n w) (getD writes k 0)) ≡ writeStrays n w file t
-  unfolding writeStrays
-  writes-stray =
-      any-ext w (λ k. leb (cycles n w) (getD writes k 0)) (λ k. leb (cycles n w) (writeAddress n w file t k)) (λ k l. ap (leb (cycles n w)) (write-is k l))
 
   -- a spare line that a word uses, looked for among the lines that leave or among those that enter
   pub spare-strays : spareUsed sources w (2 ^ depth w) ≡ carryStrays n w file t

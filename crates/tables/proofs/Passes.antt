@@ -13,7 +13,7 @@ use Rattle.bits.specs.Bits.{bit}
 use Rattle.bits.specs.Reading.{onward}
 use Rattle.bits.specs.inner.Taking.{WithZeros}
 use Rattle.bits.specs.declared.reader.Cursor.{Cursor}
-use Rattle.bits.proofs.Fields.{bit-lt, bit-zeros, field-zeros}
+use Rattle.bits.proofs.Fields.{bit-lt, bit-zeros}
 use Rattle.network.specs.Network.{bitCount, leaves, crossings}
 use Rattle.network.specs.inner.Sizes.{Sized}
 use Rattle.passing.specs.inner.Steps.{Routed}
@@ -22,10 +22,9 @@ use Rattle.network.proofs.Crossings.{crossings-ext}
 use Rattle.network.proofs.Leaves.{leaves-ext, leaves-below}
 use Rattle.tables.specs.Terms.{Dims, depth, switchBits, addressRow, lineBits}
 use Rattle.tables.specs.Format.{lineAt, switchBit, lineCrossings, shapeOf}
-use Rattle.tables.specs.inner.Lines.{Addresses, Switches, Sources, Line, LineTaken}
-use Rattle.tables.specs.declared.Pass.{Pass}
+use Rattle.tables.specs.inner.Lines.{Switches, Sources}
 use Rattle.tables.specs.declared.Shape.{Shape}
-use Rattle.tables.proofs.Dims.{addressBits-few, lines-few, switchBits-few}
+use Rattle.tables.proofs.Dims.{lines-few, switchBits-few}
 
 -- the fronts that a pass takes are as long as a network wants them
 pub fronts-sized : (d : ℕ) {lines count : ℕ} (found standing : List ℕ) → Sized lines count d → lines ≤ length standing → count ≤ length found
@@ -96,8 +95,6 @@ sources-switched (suc (suc d)) file standing b S e same long = absurd (omega (ar
 
 -- the parts of a line keep the limits of what reads them, and are what the line has
 pub record Fitting (s : Shape) : Type 0 where
-  pub addressing : s .addressing ≤ 16
-  pub width : s .width ≤ mostWidth
   pub lines : s .lines ≤ mostWidth
   pub switches : s .switches ≤ mostSwitches
   pub all : s .width * s .addressing + s .switches + s .width * s .addressing ≡ lineBits (s .words) (s .width)
@@ -105,8 +102,6 @@ pub record Fitting (s : Shape) : Type 0 where
 pub line-fits : {n w : ℕ} {s : Shape} → Dims n w → s ≡ shapeOf n w → Fitting s
 unfolding shapeOf lineBits addressRow
 line-fits {n} {w} D e = rw e (record {
-  addressing = omega (arith, addressBits-few D);
-  width = D .narrow;
   lines = lines-few D;
   switches = switchBits-few D;
   all = omega arith;
@@ -125,23 +120,8 @@ module _ (n w : ℕ) {s : Shape} (file : List ℕ) (cursor : Cursor) {behind-rea
   unfolding shapeOf addressRow lineCrossings crossings switchBit switchBits
   crossings-read t stands counted = rw (first, stands, e) at counted
 
-  pub line-read : {behind-switches : Cursor} {reads sources writes : List ℕ} (t : ℕ) → behind-switches ≡ onward behind-reads (s .switches)
-      → cursor .at ≡ lineAt n w t → Addresses file (cursor .at) (s .addressing) (s .width) reads
-      → ((d : ℕ) → Sized (s .lines) (s .switches) d → Sources d file (behind-reads .at) sources)
-      → Addresses file (behind-switches .at) (s .addressing) (s .width) writes
-      → Line n w file t reads sources writes
-  unfolding shapeOf addressRow switchBits
-  line-read t second stands reading carrying writing = record {
-    reading = rw (stands, e) at reading;
-    carrying = (rw (first, stands, e) at carrying) (depth w) (refl, refl);
-    writing = rw (second, first, stands, e) at writing;
-  }
-
 -- what was read of a short file with zeros behind it is the file's
 module _ {file longer : List ℕ} (Z : WithZeros file longer) where
-  addresses-zeros : {at address count : ℕ} {found : List ℕ} → Addresses longer at address count found → Addresses file at address count found
-  addresses-zeros {at} {address} A = record { long = A .long; each = λ b l. A .each b l ∙ field-zeros Z (at + b * address) address }
-
   pub crossings-zeros : (n w t : ℕ) → lineCrossings n w longer t ≡ lineCrossings n w file t
   unfolding lineCrossings switchBit
   crossings-zeros n w t =
@@ -153,14 +133,4 @@ module _ {file longer : List ℕ} (Z : WithZeros file longer) where
     each = λ x l.
         let same = leaves-ext d (λ i. bit file (at + i)) (λ i. bit longer (at + i)) (λ i m. sym (bit-zeros Z (at + i))) x l in
         ap (λ (y : ℕ). getD found y 0) same ∙ S .each x l;
-  }
-
-  pub taken-zeros : {n w : ℕ} {cursor : Cursor} {pass : Pass} {reads sources writes : List ℕ}
-      → LineTaken n w longer cursor pass reads sources writes → LineTaken n w file cursor pass reads sources writes
-  taken-zeros {n} {w} L = record {
-    moved = L .moved;
-    counted = λ t stands. L .counted t stands ∙ crossings-zeros n w t;
-    line = λ t stands.
-        let line = L .line t stands in
-        record { reading = addresses-zeros (line .reading); carrying = sources-zeros (line .carrying); writing = addresses-zeros (line .writing) };
   }

@@ -1,39 +1,15 @@
--- The scans over a line that was taken: each meets what it looks for, or passes it.
+-- The scan of the spare lines: it meets a line below the width, or passes all.
 use Prim.Native.Nat.{ℕ, _+_, _-_, _<_, _≤_}
 use mathlib.Core.Path.{_≡_, sym}
 use mathlib.Core.Bool.{true, false}
 use mathlib.Core.List.{List}
 use native.Mathlib.Omega.{arith}
 use native.Mathlib.Decide.{ℕ-discrete}
-use borrow.Author.Tests.{lt-ltb, le-ltb, le-leb, lt-leb}
-use lib.Dec.{leb}
+use borrow.Author.Tests.{lt-ltb, le-ltb}
 use lib.ListN.{getD}
 use Rattle.laws.specs.Any.{any}
 use Rattle.laws.proofs.Anys.{any-none, any-some}
 use Rattle.tables.specs.inner.Lines.{spareUsed}
-
--- ---- addresses
-
--- the numbers of xs before i are below the limit
-pub record Low (xs : List ℕ) (limit i : ℕ) : Type 0 where
-  pub each : (j : ℕ) → j < i → getD xs j 0 < limit
-
-pub low-none : (xs : List ℕ) (limit : ℕ) → Low xs limit 0
-low-none xs limit = record { each = λ j l. absurd (omega arith) }
-
-pub low-more : {xs : List ℕ} {limit i : ℕ} → Low xs limit i → getD xs i 0 < limit → Low xs limit (i + 1)
-low-more {xs} {limit} {i} L h = record {
-  each = λ j l. elim (ℕ-discrete j i) [ yes e ↦ rw e h | no ne ↦ L .each j (omega arith) ];
-}
-
-pub low-met : (xs : List ℕ) (limit count i : ℕ) → i < count → limit ≤ getD xs i 0 → true ≡ any count (λ j. leb limit (getD xs j 0))
-low-met xs limit count i l h = sym (any-some count (λ j. leb limit (getD xs j 0)) i l (le-leb limit (getD xs i 0) h))
-
-pub low-all : {xs : List ℕ} {limit i : ℕ} (count : ℕ) → Low xs limit i → count ≤ i → false ≡ any count (λ j. leb limit (getD xs j 0))
-low-all {xs} {limit} {i} count L l =
-    sym (any-none count (λ j. leb limit (getD xs j 0)) (λ j m. lt-leb limit (getD xs j 0) (L .each j (omega arith))))
-
--- ---- spare lines
 
 -- on the lines from the width up to y no line below the width leaves
 pub record Spare (sources : List ℕ) (width y : ℕ) : Type 0 where

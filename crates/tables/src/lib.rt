@@ -4,9 +4,7 @@ mod opening;
 
 use bits::Cursor;
 pub use lines::address_in;
-pub use lines::any_from;
 pub use lines::cursor_at;
-pub use lines::line_at;
 pub use lines::numbered;
 pub use lines::sources;
 pub use lines::spare_used;

@@ -1,18 +1,16 @@
 // The lines of a set.
 ghost use mathlib.Core.Path.{_≡_};
 ghost use Prim.Native.Nat.{ℕ, _+_, _*_, _-_, _/_, _%_, _^_, _<_, _≤_};
-ghost use lib.Dec.{leb};
 ghost use lib.ListN.{length, getD};
 ghost use Rattle.limits.specs.Limits.{mostWidth, mostSwitches};
-ghost use Rattle.laws.specs.Any.{any};
 ghost use Rattle.laws.specs.Sum.{hits};
 ghost use Rattle.bits.specs.Bits.{digit, bit};
 ghost use Rattle.bits.specs.Reading.{onward};
 ghost use Rattle.bits.specs.inner.Taking.{mostField, Room};
 ghost use Rattle.network.specs.inner.Sizes.{Sized};
-ghost use Rattle.tables.specs.Terms.{cycles, lineBits};
+ghost use Rattle.tables.specs.Terms.{cycles};
 ghost use Rattle.tables.specs.Format.{Shaped, cursorAt};
-ghost use Rattle.tables.specs.inner.Lines.{Addresses, bytesOf, byteOf, Put, Spread, Switches, Sources, LineTaken, spareUsed};
+ghost use Rattle.tables.specs.inner.Lines.{bytesOf, byteOf, Put, Spread, Switches, Sources, spareUsed};
 use crate::Pass;
 use crate::Shape;
 use bits::Cursor;
@@ -28,24 +26,6 @@ pub fn address_in(several: u64, behind: usize, address: usize) -> usize
     ensures { λ r. ⌜ r ≡ several / 2 ^ behind % 2 ^ address ⌝ }
 {
     ((several >> behind) % (1u64 << address)) as usize
-}
-
-// The `count` addresses of `address` bits each that come next, and the cursor behind them.
-fn addresses(file: &[u8], cursor: Cursor, address: usize, count: usize, found: &mut [u16]) -> Cursor
-    requires { ⌜ (8 ≤ length (now file)) × (address ≤ 16) × (count ≤ mostWidth) × Room cursor (count * address)
-        × (length (now found) ≡ mostWidth) ⌝ }
-    ensures { λ r. ⌜ (r ≡ onward cursor (count * address))
-        × Addresses (now (file .entry)) (cursor .at) address count (now (found .exit)) ⌝ }
-{
-    let mut next = cursor;
-    let mut b = 0;
-    while b < count {
-        let taken = bits::next_field(file, next, address);
-        found[b] = taken.value as u16;
-        next = taken.rest;
-        b += 1;
-    }
-    next
 }
 
 // The four binary digits of a number as the four bytes of another, the highest digit in the lowest byte. Of four copies of the digits, nine places
@@ -183,56 +163,6 @@ pub fn cursor_at(shape: Shape, t: usize) -> Cursor
     }
 }
 
-// What the line does that comes next, in a file of at least eight bytes; `line_at` says the rest.
-fn line_from(
-    file: &[u8],
-    shape: Shape,
-    cursor: Cursor,
-    setting: &mut [u8],
-    reads: &mut [u16],
-    standing: &mut [u8],
-    writes: &mut [u16],
-) -> Pass
-    requires { ⌜ Shaped shape × Room cursor (lineBits (shape .words) (shape .width)) × (8 ≤ length (now file)) ⌝ }
-    requires { ⌜ (length (now setting) ≡ mostSwitches) × (length (now reads) ≡ mostWidth)
-        × (length (now standing) ≡ mostWidth) × (length (now writes) ≡ mostWidth) ⌝ }
-    ensures { λ r. ⌜ LineTaken (shape .words) (shape .width) (now (file .entry)) cursor r (now (reads .exit)) (now (standing .exit))
-        (now (writes .exit)) ⌝ }
-{
-    let read = addresses(file, cursor, shape.addressing, shape.width, reads);
-    let carried = sources(file, read, shape.lines, shape.switches, setting, standing);
-    Pass {
-        cursor: addresses(file, carried.cursor, shape.addressing, shape.width, writes),
-        crossed: carried.crossed,
-    }
-}
-
-// What the line does that comes next in a set: the address that each bank of the first memory reads, the line that leaves the network on each
-// line, and the address that each bank of the second memory writes; with the cursor behind it and its crossed switches. Only the entries of the
-// set's banks and lines count. The caller lends the arrays, so that they are made once for many lines, among them one for the switch bits. Only our
-// own crates call it.
-pub fn line_at(
-    file: &[u8],
-    shape: Shape,
-    cursor: Cursor,
-    setting: &mut [u8],
-    reads: &mut [u16],
-    standing: &mut [u8],
-    writes: &mut [u16],
-) -> Pass
-    requires { ⌜ Shaped shape × Room cursor (lineBits (shape .words) (shape .width)) ⌝ }
-    requires { ⌜ (length (now setting) ≡ mostSwitches) × (length (now reads) ≡ mostWidth)
-        × (length (now standing) ≡ mostWidth) × (length (now writes) ≡ mostWidth) ⌝ }
-    ensures { λ r. ⌜ LineTaken (shape .words) (shape .width) (now (file .entry)) cursor r (now (reads .exit)) (now (standing .exit))
-        (now (writes .exit)) ⌝ }
-{
-    if file.len() < 8 {
-        let longer = bits::with_zeros(file);
-        return line_from(&longer, shape, cursor, setting, reads, standing, writes);
-    }
-    line_from(file, shape, cursor, setting, reads, standing, writes)
-}
-
 // Each of 64 lines with its own number. Only our own crates need it.
 pub fn numbered() -> [u8; MOST_WIDTH]
     ensures { λ r. ⌜ (length r ≡ mostWidth) × ((x : ℕ) → x < mostWidth → getD r x 0 ≡ x) ⌝ }
@@ -240,21 +170,6 @@ pub fn numbered() -> [u8; MOST_WIDTH]
     let mut standing = [0u8; MOST_WIDTH];
     number(&mut standing, MOST_WIDTH);
     standing
-}
-
-// Whether one of the first `count` addresses is `limit` or more. Only our own crates call it.
-pub fn any_from(addresses: &[u16], count: usize, limit: usize) -> bool
-    requires { ⌜ count ≤ length (now addresses) ⌝ }
-    ensures { λ r. ⌜ r ≡ any count (λ i. leb limit (getD (now (addresses .entry)) i 0)) ⌝ }
-{
-    let mut i = 0;
-    while i < count {
-        if limit <= addresses[i] as usize {
-            return true;
-        }
-        i += 1;
-    }
-    false
 }
 
 // Whether a line below `width` leaves on a spare line, from `width` to `lines`. Only our own crates call it.

@@ -9,19 +9,9 @@ use Rattle.limits.specs.Limits.{mostWidth, mostSwitches}
 use Rattle.laws.specs.Any.{any}
 use Rattle.laws.specs.Tabulate.{tabulate}
 use Rattle.bits.specs.Bits.{digit, bit, field}
-use Rattle.bits.specs.Reading.{onward}
-use Rattle.bits.specs.declared.reader.Cursor.{Cursor}
 use Rattle.network.specs.Network.{leaves}
-use Rattle.tables.specs.Terms.{addressBits, depth, switchBits, addressRow, lineBits}
-use Rattle.tables.specs.Format.{lineAt, lineCrossings}
-use Rattle.tables.specs.declared.Pass.{Pass}
 
--- the addresses that stand from bit `at` on
-pub record Addresses (file : List ℕ) (at address count : ℕ) (found : List ℕ) : Type 0 where
-  pub long : length found ≡ mostWidth
-  pub each : (b : ℕ) → b < count → getD found b 0 ≡ field file (at + b * address) address
-
--- the same addresses as a list
+-- the addresses that stand from bit `at` on, as a list
 abbrev pub rowAt : List ℕ → ℕ → ℕ → List ℕ
 rowAt file at address = tabulate mostWidth (λ b. field file (at + b * address) address)
 
@@ -53,18 +43,6 @@ pub record Switches (file : List ℕ) (at count : ℕ) (found : List ℕ) : Type
 pub record Sources (d : ℕ) (file : List ℕ) (at : ℕ) (found : List ℕ) : Type 0 where
   pub long : length found ≡ mostWidth
   pub each : (x : ℕ) → x < 2 ^ d → getD found (leaves d (λ i. bit file (at + i)) x) 0 ≡ x
-
--- what line t does
-pub record Line (n w : ℕ) (file : List ℕ) (t : ℕ) (reads sources writes : List ℕ) : Type 0 where
-  pub reading : Addresses file (lineAt n w t) (addressBits n w) w reads
-  pub carrying : Sources (depth w) file (lineAt n w t + addressRow n w) sources
-  pub writing : Addresses file (lineAt n w t + addressRow n w + switchBits w) (addressBits n w) w writes
-
--- the line that comes next at a cursor was taken, whatever its number: the cursor behind it, its crossed switches, and what it does
-pub record LineTaken (n w : ℕ) (file : List ℕ) (cursor : Cursor) (pass : Pass) (reads sources writes : List ℕ) : Type 0 where
-  pub moved : pass .cursor ≡ onward cursor (lineBits n w)
-  pub counted : (t : ℕ) → cursor .at ≡ lineAt n w t → pass .crossed ≡ lineCrossings n w file t
-  pub line : (t : ℕ) → cursor .at ≡ lineAt n w t → Line n w file t reads sources writes
 
 -- a line below the width stands on a spare line
 unfoldable pub spareUsed : List ℕ → ℕ → ℕ → Bool

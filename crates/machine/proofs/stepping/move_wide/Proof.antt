@@ -1,193 +1,312 @@
--- `machine::stepping::move_wide` meets its contract: the three tests are the definition's, in its order, the words of a line that passes them
--- move, and its crossed switches are told.
-use Prim.Native.Nat.{ℕ}
-use mathlib.Core.Path.{_≡_, refl, sym, ap, _∙_}
-use mathlib.Core.Bool.{Bool, false}
+-- `machine::stepping::move_wide` meets its contract: the cursor is carried on from the read addresses to the switch bits and to the write addresses. What
+-- is found there are the definition's tests, in its order, and the words of a line that passes them move.
+use Prim.Native.Nat.{ℕ, _+_, _*_, _-_}
+use mathlib.Core.Path.{_≡_, refl, subst₂, sym, ap, _∙_}
+use mathlib.Core.Bool.{Bool}
 use mathlib.Core.List.{List}
 use native.Mathlib.Omega.{arith}
 use borrow.Author.Needs.{needs}
-use Rattle.tables.specs.Datapath.{readStrays, carryStrays, writeStrays, strays}
-use Rattle.tables.specs.Format.{lineAt, cursorAt}
-use Rattle.tables.specs.inner.Lines.{Line}
+use Rattle.bits.specs.Reading.{onward}
+use Rattle.bits.specs.inner.Taking.{Room, WithZeros}
 use Rattle.bits.specs.declared.reader.Cursor.{Cursor}
-use Rattle.tables.proofs.Cursors.{line-room}
+use Rattle.tables.specs.Terms.{lineBits}
+use Rattle.tables.specs.Format.{lineAt}
+use Rattle.tables.specs.Datapath.{carryStrays}
+use Rattle.tables.proofs.Cursors.{line-room, room-less, room-behind, carried-on}
 use Rattle.tables.proofs.Dims.{depth-reaches, lines-few}
-use Rattle.tables.proofs.Lined.{reads-stray, writes-stray, spare-strays}
-use Rattle.machine.proofs.Tests.{none-stray, read-refused, carry-refused, write-refused, line-moves}
+use Rattle.tables.proofs.Held.{readsOf, writesOf, zeros-self, read-row, write-row, crossings-held, line-held, spare-held}
+use Rattle.tables.proofs.Lined.{Line}
+use Rattle.tables.proofs.Opens.{shape-same}
+use Rattle.tables.proofs.Passes.{Fitting, line-fits, line-sized}
+use Rattle.machine.specs.inner.Rows.{spotIn, wordIn, RowTaken}
+use Rattle.machine.specs.declared.rows.Row.{Row}
+use Rattle.machine.specs.declared.rows.Row.the-variants.{Passed}
+use Rattle.machine.proofs.Taking.{reads-out, reads-in, writes-out, writes-in, words-sent, words-put}
+use Rattle.machine.proofs.Tests.{read-refused, carry-refused, write-refused, line-moves}
 use Rattle.machine.proofs.stepping.move_wide.Statement.{statement}
 use Rattle.machine.proofs.stepping.move_wide.Tie as tie
 
--- the start, from where the cursor is made, where the line is found and where each test is passed
-abbrev start1 : tie.After-slice-known → tie.Start
-start1 c = c .before .before .before
+-- ---- the places
 
-abbrev found : tie.After-any-from → tie.After-line-at
-found c = c .before .before .before .before .before .before
+abbrev begun : tie.After-cursor-at → tie.Start
+begun c = c .before .before .before .before .before
 
-abbrev found2 : tie.After-spare-used → tie.After-line-at
-found2 c = found (c .before .before .before)
+abbrev looked : tie.After-fetch → tie.After-cursor-at
+looked c = c .before .before
 
-abbrev found3 : tie.After-any-from2 → tie.After-line-at
-found3 c = found2 (c .before .before .before)
+abbrev start : tie.After-fetch → tie.Start
+start c = begun (looked c)
 
-abbrev line-start : tie.After-line-at → tie.Start
-line-start c = start1 (c .before .before .before .before .before .before)
+abbrev found : tie.After-known-told → tie.After-fetch
+found c = c .before .before .before .before
 
--- a test of the step's own line
-abbrev own : (ℕ → ℕ → List ℕ → ℕ → Bool) → tie.Start → Bool
-own test s = test (s .args .shape .words) (s .args .shape .width) (s .args .file .now) (s .args .clock .cycle)
+abbrev behind-reads : tie.After-sources → tie.After-known-told
+behind-reads c = c .before .before .before
 
--- the cursor stands at the step's own line, and what that line does
-stands : (c : tie.After-cursor-at) → let s = start1 (c .before) in
-    c .cursor-at .result ≡ cursorAt (s .args .shape .words) (s .args .shape .width) (s .args .clock .cycle)
-stands c = c .cursor-at .ensures
+abbrev sent : tie.After-sources → tie.After-fetch
+sent c = found (behind-reads c)
 
-at-line : (c : tie.After-line-at) → let s = line-start c in
-    c .before .before .before .before .before .cursor-at .result .at ≡ lineAt (s .args .shape .words) (s .args .shape .width) (s .args .clock .cycle)
-at-line c = ap (λ (x : Cursor). x .at) (stands (c .before .before .before .before .before))
+abbrev carried : tie.After-spare-used → tie.After-sources
+carried c = c .before .before .before .before
 
-line-of : (c : tie.After-line-at) → let s = line-start c in
-    let last = c .line-at .last .1 .1 .1 .1 in
-    Line (s .args .shape .words) (s .args .shape .width) (s .args .file .now) (s .args .clock .cycle) (last .0) (last .1 .0) (last .1 .1 .0)
-line-of c = c .line-at .ensures .line (line-start c .args .clock .cycle) (at-line c)
+abbrev passed : tie.After-aim → tie.Else1
+passed c = c .before .before .before
 
--- what each test says
-reads-told : (c : tie.After-any-from) {b : Bool} → c .any-from .result ≡ b → own readStrays (line-start (found c)) ≡ b
-reads-told c e =
-    sym (reads-stray (line-of (found c))) ∙ rw (line-start (found c) .pre .0 .0 .cycles) at (sym (c .any-from .ensures) ∙ e)
+abbrev aimed : tie.After-aim → tie.After-sources
+aimed c = carried (passed c .before)
 
-carries-told : (c : tie.After-spare-used) {b : Bool} → c .spare-used .result ≡ b → own carryStrays (line-start (found2 c)) ≡ b
-carries-told c e =
-    sym (spare-strays (line-of (found2 c))) ∙ rw (line-start (found2 c) .pre .0 .0 .lines) at (sym (c .spare-used .ensures) ∙ e)
+-- ---- the cursor
 
-writes-told : (c : tie.After-any-from2) {b : Bool} → c .any-from2 .result ≡ b → own writeStrays (line-start (found3 c)) ≡ b
-writes-told c e =
-    sym (writes-stray (line-of (found3 c))) ∙ rw (line-start (found3 c) .pre .0 .0 .cycles) at (sym (c .any-from2 .ensures) ∙ e)
+-- the bits of a row of addresses
+abbrev row : tie.Start → ℕ
+row s = s .args .shape .width * s .args .shape .addressing
 
-none : (c : tie.Else3) → own strays (line-start (found3 (c .before))) ≡ false
-none c =
-    let three = c .before .before .before in
-    let two = three .before .before .before in
-    none-stray _ _ _ _ (reads-told (two .before) (two .if1 .left)) (carries-told (three .before) (three .if2 .left))
-    (writes-told (c .before) (c .if3 .left))
+fits-known : (s : tie.Start) → Fitting (s .args .shape)
+fits-known s = line-fits (s .pre .0 .0 .dims) (shape-same (s .pre .0 .0))
+
+-- it begins at the step's own line, with room for it
+at-line : (c : tie.After-cursor-at) → let a = begun c .args in c .cursor-at .result .at ≡ lineAt (a .shape .words) (a .shape .width) (a .clock .cycle)
+at-line c = ap (λ (x : Cursor). x .at) (c .cursor-at .ensures)
+
+room : (c : tie.After-cursor-at) → let a = begun c .args in Room (c .cursor-at .result) (lineBits (a .shape .words) (a .shape .width))
+room c =
+    let s = begun c in
+    let none : c .cursor-at .result .handed ≡ 0 = ap (λ (x : Cursor). x .handed) (c .cursor-at .ensures) in
+    line-room (s .pre .0 .0 .dims) (s .args .clock .cycle) (s .pre .0 .1 .cycle) (at-line c) (omega (arith, none))
+
+-- ---- what is found, of every file that the bytes read as
+
+-- the read addresses, once the answer is known
+reads-told : (c : tie.After-fetch) (r : Row) → c .fetch .result ≡ r → {file : List ℕ} → WithZeros file (start c .args .bytes .now)
+    → let a = start c .args in
+    RowTaken r (wordIn (a .shape) (a .first .now) (1 - a .clock .half)) (looked c .cursor-at .result)
+    (readsOf (a .shape .words) (a .shape .width) file (a .clock .cycle)) (a .shape) (c .fetch .last .1 .1 .1 .1 .1 .0)
+reads-told c r e Z =
+    let s = start c in
+    let a = s .args in
+    let cursor = looked c .cursor-at .result in
+    let Says : Row → List ℕ → Type 0 =
+    λ r x. RowTaken r (wordIn (a .shape) (a .first .now) (1 - a .clock .half)) cursor x (a .shape) (c .fetch .last .1 .1 .1 .1 .1 .0) in
+    subst₂ Says e (read-row (a .shape) cursor (a .clock .cycle) (s .pre .0 .0) Z (at-line (looked c))) (c .fetch .ensures)
+
+-- they passed
+reads-passed : (c : tie.After-known-told) {file : List ℕ} → WithZeros file (start (found c) .args .bytes .now)
+    → let a = start (found c) .args in
+    RowTaken (Passed (c .before .next .given .0 .0)) (wordIn (a .shape) (a .first .now) (1 - a .clock .half)) (looked (found c) .cursor-at .result)
+    (readsOf (a .shape .words) (a .shape .width) file (a .clock .cycle)) (a .shape) (found c .fetch .last .1 .1 .1 .1 .1 .0)
+reads-passed c Z = reads-told (found c) _ (c .before .next .given .1) Z
+
+reads-behind : (c : tie.After-known-told) → c .before .next .given .0 .0 ≡ onward (looked (found c) .cursor-at .result) (row (start (found c)))
+reads-behind c = reads-passed c (zeros-self (start (found c) .pre .1 .0)) .0
+
+-- the network
+switches-behind : (c : tie.After-sources)
+    → let s = start (sent c) in
+    c .sources .result .cursor ≡ onward (looked (sent c) .cursor-at .result) (row s + s .args .shape .switches)
+switches-behind c =
+    let s = start (sent c) in
+    carried-on (looked (sent c) .cursor-at .result) (row s) (reads-behind (behind-reads c)) (s .args .shape .switches) (c .sources .ensures .0)
+
+line-of : (c : tie.After-sources) {file : List ℕ} → WithZeros file (start (sent c) .args .bytes .now)
+    → let a = start (sent c) .args in
+    Line (a .shape .words) (a .shape .width) file (a .clock .cycle) (readsOf (a .shape .words) (a .shape .width) file (a .clock .cycle))
+    (c .sources .last .1 .1 .1 .1 .1 .0) (writesOf (a .shape .words) (a .shape .width) file (a .clock .cycle))
+line-of c Z =
+    let s = start (sent c) in
+    line-held (s .args .shape) (looked (sent c) .cursor-at .result) (s .args .clock .cycle) (s .pre .0 .0) Z (at-line (looked (sent c)))
+    (reads-behind (behind-reads c)) (c .sources .ensures .2)
+
+carries-told : (c : tie.After-spare-used) {r : Bool} → c .spare-used .result ≡ r
+    → {file : List ℕ} → WithZeros file (start (sent (carried c)) .args .bytes .now)
+    → let a = start (sent (carried c)) .args in
+    carryStrays (a .shape .words) (a .shape .width) file (a .clock .cycle) ≡ r
+carries-told c e Z =
+    let d = carried c in
+    let s = start (sent d) in
+    sym (spare-held (s .args .shape) (looked (sent d) .cursor-at .result) (s .args .clock .cycle) (s .pre .0 .0) Z (at-line (looked (sent d)))
+    (reads-behind (behind-reads d)) (d .sources .ensures .2))
+    ∙ sym (c .spare-used .ensures) ∙ e
+
+-- the write addresses, once the answer is known
+writes-told : (c : tie.After-aim) (r : Row) → c .aim .result ≡ r → {file : List ℕ} → WithZeros file (start (sent (aimed c)) .args .bytes .now)
+    → let a = start (sent (aimed c)) .args in
+    RowTaken r (spotIn (a .shape) (a .clock .half)) (aimed c .sources .result .cursor)
+    (writesOf (a .shape .words) (a .shape .width) file (a .clock .cycle)) (a .shape) (c .aim .last .1 .1 .1 .1 .0)
+writes-told c r e Z =
+    let d = aimed c in
+    let s = start (sent d) in
+    let a = s .args in
+    let Says : Row → List ℕ → Type 0 =
+    λ r x. RowTaken r (spotIn (a .shape) (a .clock .half)) (d .sources .result .cursor) x (a .shape) (c .aim .last .1 .1 .1 .1 .0) in
+    subst₂ Says e (write-row (a .shape) (looked (sent d) .cursor-at .result) (a .clock .cycle) (s .pre .0 .0) Z (at-line (looked (sent d)))
+    (switches-behind d)) (c .aim .ensures)
+
+-- ---- the needs
+
+sub-other : tie.Need-sub-other
+sub-other c = search needs
 
 cursor-at-requires : tie.Need-cursor-at-requires
-cursor-at-requires c κs = let s = start1 c in (s .pre .0 .0, s .pre .0 .1 .cycle)
+cursor-at-requires c κs = search needs
 
-slice-aggregate-line-at : tie.Need-slice-aggregate-line-at
-slice-aggregate-line-at c = search needs
+slice-aggregate-fetch : tie.Need-slice-aggregate-fetch
+slice-aggregate-fetch c = search needs
 
-slice-aggregate-line-at-2 : tie.Need-slice-aggregate-line-at-2
-slice-aggregate-line-at-2 c = search needs
+fetch-requires : tie.Need-fetch-requires
+fetch-requires c κs =
+    let d = c .before in
+    let s = begun d in
+    ((s .pre .0 .0, s .pre .1 .0, room-less (room d) (omega (arith, fits-known s .all))), (omega arith, s .pre .1 .1, refl))
 
-slice-aggregate-line-at-3 : tie.Need-slice-aggregate-line-at-3
-slice-aggregate-line-at-3 c = search needs
+enum-told : tie.Need-enum-told
+enum-told c = search needs
 
-slice-aggregate-line-at-4 : tie.Need-slice-aggregate-line-at-4
-slice-aggregate-line-at-4 c = search needs
+enum-known-next : tie.Need-enum-known-next
+enum-known-next c = search needs
 
-line-at-requires : tie.Need-line-at-requires
-line-at-requires c κs =
-    let d = c .before .before .before .before in
-    let s = start1 (d .before) in
-    let t = s .args .clock .cycle in
-    let cursor = cursorAt (s .args .shape .words) (s .args .shape .width) t in
-    let room = line-room {cursor = cursor} (s .pre .0 .0 .dims) t (s .pre .0 .1 .cycle) refl (omega arith) in
-    ((s .pre .0 .0, rw (stands d) room), (refl, refl, refl, refl))
+slice-aggregate-sources : tie.Need-slice-aggregate-sources
+slice-aggregate-sources c = search needs
 
-slice-aggregate-any-from : tie.Need-slice-aggregate-any-from
-slice-aggregate-any-from c = search needs
+slice-aggregate-sources-2 : tie.Need-slice-aggregate-sources-2
+slice-aggregate-sources-2 c = search needs
 
-any-from-requires : tie.Need-any-from-requires
-any-from-requires c κs = search needs
-
-returns : tie.Need-returns
-returns c = read-refused _ _ _ _ _ _ (line-start (found (c .before)) .pre .0 .2) (reads-told (c .before) (c .if1 .taken))
+sources-requires : tie.Need-sources-requires
+sources-requires c κs =
+    let d = c .before .before in
+    let s = start (found d) in
+    let f = fits-known s in
+    let r = room (looked (found d)) in
+    let at = ap (λ (x : Cursor). x .at) (reads-behind d) in
+    let handed = ap (λ (x : Cursor). x .handed) (reads-behind d) in (
+      line-sized (s .pre .0 .0 .dims) (shape-same (s .pre .0 .0)),
+      (
+        s .pre .1 .0,
+        f .lines,
+        f .switches,
+        record { at = omega (arith, r .at, at, f .all); handed = omega (arith, r .handed, handed, f .all) },
+        refl,
+        refl,
+      ),
+    )
 
 slice-aggregate-spare-used : tie.Need-slice-aggregate-spare-used
 slice-aggregate-spare-used c = search needs
 
 spare-used-requires : tie.Need-spare-used-requires
 spare-used-requires c κs =
-    let line = found (c .before .before) in
-    let s = line-start line in
+    let d = c .before .before .before in
+    let s = start (sent d) in
     let v = s .pre .0 .0 .lines in
-    (rw v (depth-reaches (s .args .shape .width)), omega (arith, line-of line .carrying .long, v, lines-few (s .pre .0 .0 .dims)))
+    let wide = depth-reaches (s .args .shape .width) in
+    let long = line-of d (zeros-self (s .pre .1 .0)) .carrying .long in
+    (omega (arith, v, wide), omega (arith, long, v, wide, lines-few (s .pre .0 .0 .dims)))
+
+returns : tie.Need-returns
+returns c file Z =
+    let d = carried (c .before) in
+    let s = start (sent d) in
+    carry-refused _ _ file _ _ _ (s .pre .0 .2) (reads-in (s .pre .0 .0) file (s .args .clock .cycle) (reads-passed (behind-reads d) Z .1))
+    (carries-told (c .before) (c .if1 .taken) Z)
+
+slice-aggregate-aim : tie.Need-slice-aggregate-aim
+slice-aggregate-aim c = search needs
+
+aim-requires : tie.Need-aim-requires
+aim-requires c κs =
+    let d = carried (c .before .before .before) in
+    let s = start (sent d) in
+    let behind = room-behind (looked (sent d) .cursor-at .result) (row s + s .args .shape .switches) (switches-behind d) {m = row s}
+    (room (looked (sent d))) (omega (arith, fits-known s .all)) in
+    ((s .pre .0 .0, s .pre .1 .0, behind), (s .pre .0 .1 .half, refl))
+
+enum-told-2 : tie.Need-enum-told-2
+enum-told-2 c = search needs
+
+enum-told-3 : tie.Need-enum-told-3
+enum-told-3 c = search needs
+
+slice-aggregate-put-words : tie.Need-slice-aggregate-put-words
+slice-aggregate-put-words c = search needs
+
+slice-aggregate-put-words-2 : tie.Need-slice-aggregate-put-words-2
+slice-aggregate-put-words-2 c = search needs
+
+slice-aggregate-put-words-3 : tie.Need-slice-aggregate-put-words-3
+slice-aggregate-put-words-3 c = search needs
+
+put-words-requires : tie.Need-put-words-requires
+put-words-requires c κs =
+    let told = c .before .before .before .before in
+    let w = told .before .before .before in
+    let d = aimed w in
+    let s = start (sent d) in
+    let Z = zeros-self (s .pre .1 .0) in (
+      s .pre .0 .0,
+      words-sent (s .pre .0 .0) (s .args .bytes .now) (s .args .clock) (s .pre .0 .1 .half) (s .args .first .now) (line-of d Z)
+          (carries-told (passed w .before) (passed w .if1 .left) Z) (reads-passed (behind-reads d) Z .1)
+          (writes-told w _ (told .enum-told3 .given .1) Z .1) (s .args .second .now) (s .pre .1 .2),
+    )
 
 returns-2 : tie.Need-returns-2
-returns-2 c =
-    let two = c .before .before .before in
-    carry-refused _ _ _ _ _ _ (line-start (found2 (c .before)) .pre .0 .2) (reads-told (two .before) (two .if1 .left))
-    (carries-told (c .before) (c .if2 .taken))
-
-slice-aggregate-any-from-2 : tie.Need-slice-aggregate-any-from-2
-slice-aggregate-any-from-2 c = search needs
-
-any-from-requires-2 : tie.Need-any-from-requires-2
-any-from-requires-2 c κs =
-    let line = found2 (c .before .before) in
-    omega (arith, line-of line .writing .long, line-start line .pre .0 .0 .dims .narrow)
+returns-2 c file Z =
+    let d = c .before .before .before in
+    let s = start d in
+    read-refused _ _ file _ _ _ (s .pre .0 .2) (reads-out (s .pre .0 .0) file (s .args .clock .cycle) (reads-told d _ (c .enum-told .given .1) Z))
 
 returns-3 : tie.Need-returns-3
-returns-3 c =
-    let three = c .before .before .before in
-    let two = three .before .before .before in
-    write-refused _ _ _ _ _ _ (line-start (found3 (c .before)) .pre .0 .2) (reads-told (two .before) (two .if1 .left))
-    (carries-told (three .before) (three .if2 .left)) (writes-told (c .before) (c .if3 .taken))
-
-slice-aggregate-move-words : tie.Need-slice-aggregate-move-words
-slice-aggregate-move-words c = search needs
-
-slice-aggregate-move-words-2 : tie.Need-slice-aggregate-move-words-2
-slice-aggregate-move-words-2 c = search needs
-
-slice-aggregate-move-words-3 : tie.Need-slice-aggregate-move-words-3
-slice-aggregate-move-words-3 c = search needs
-
-move-words-requires : tie.Need-move-words-requires
-move-words-requires c κs =
-    let four = c .before .before .before .before in
-    let line = found3 (four .before) in
-    let s = line-start line in
-    (s .pre .0 .0, ((s .pre .1 .0, s .pre .1 .1, s .pre .0 .1 .half), (s .args .file .now, line-of line, none four)))
+returns-3 c file Z =
+    let w = c .before .before .before in
+    let d = aimed w in
+    let s = start (sent d) in
+    let t = s .args .clock .cycle in
+    write-refused _ _ file _ _ _ (s .pre .0 .2) (reads-in (s .pre .0 .0) file t (reads-passed (behind-reads d) Z .1))
+    (carries-told (passed w .before) (passed w .if1 .left) Z) (writes-out (s .pre .0 .0) file t (writes-told w _ (c .enum-told2 .given .1) Z))
 
 same-length : tie.Need-same-length
 same-length c = search needs
 
 returns-4 : tie.Need-returns-4
-returns-4 c =
-    let moved = c .before .before in
-    let four = moved .before .before .before .before .before in
-    let three = four .before .before .before in
-    let two = three .before .before .before in
-    let line = found3 (four .before) in
-    let s = line-start line in
-    let counted = line .line-at .ensures .counted (s .args .clock .cycle) (at-line line) in
-    line-moves _ _ _ _ _ _ (s .pre .0 .2) (reads-told (two .before) (two .if1 .left)) (carries-told (three .before) (three .if2 .left))
-    (writes-told (four .before) (four .if3 .left)) counted (moved .move-words .ensures (s .args .file .now) (line-of line) (none four))
+returns-4 c file Z =
+    let put = c .before .before in
+    let told = put .before .before .before .before .before in
+    let w = told .before .before .before in
+    let d = aimed w in
+    let s = start (sent d) in
+    let t = s .args .clock .cycle in
+    let R = reads-passed (behind-reads d) Z .1 in
+    let W = writes-told w _ (told .enum-told3 .given .1) Z .1 in
+    let carries = carries-told (passed w .before) (passed w .if1 .left) Z in
+    let counted = crossings-held (s .args .shape) (looked (sent d) .cursor-at .result) t (s .pre .0 .0) Z (at-line (looked (sent d)))
+    (reads-behind (behind-reads d)) (d .sources .ensures .1) in
+    line-moves _ _ file _ _ _ (s .pre .0 .2) (reads-in (s .pre .0 .0) file t R) carries (writes-in (s .pre .0 .0) file t W) counted
+    (put .put-words .ensures
+    ∙ words-put (s .pre .0 .0) file (s .args .clock) (s .pre .0 .1 .half) (s .args .first .now) (line-of d Z) carries R W (s .args .second .now))
 
 pub move-wide-spec : {M : Type 1} → statement M
 move-wide-spec =
     tie.close
     (tie.spec
+    sub-other
     cursor-at-requires
-    slice-aggregate-line-at
-    slice-aggregate-line-at-2
-    slice-aggregate-line-at-3
-    slice-aggregate-line-at-4
-    line-at-requires
-    slice-aggregate-any-from
-    any-from-requires
-    returns
+    slice-aggregate-fetch
+    fetch-requires
+    enum-told
+    enum-known-next
+    slice-aggregate-sources
+    slice-aggregate-sources-2
+    sources-requires
     slice-aggregate-spare-used
     spare-used-requires
+    returns
+    slice-aggregate-aim
+    aim-requires
+    enum-told-2
+    enum-told-3
+    slice-aggregate-put-words
+    slice-aggregate-put-words-2
+    slice-aggregate-put-words-3
+    put-words-requires
     returns-2
-    slice-aggregate-any-from-2
-    any-from-requires-2
     returns-3
-    slice-aggregate-move-words
-    slice-aggregate-move-words-2
-    slice-aggregate-move-words-3
-    move-words-requires
     same-length
     returns-4)

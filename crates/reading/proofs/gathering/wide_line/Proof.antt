@@ -14,11 +14,12 @@ use Rattle.tables.specs.inner.Lines.{rowAt, spareUsed}
 use Rattle.tables.proofs.Dims.{depth-reaches, lines-few}
 use Rattle.tables.proofs.Cursors.{room-less, room-behind, carried-on}
 use Rattle.tables.proofs.Opens.{shape-same}
-use Rattle.tables.proofs.Passes.{Fitting, line-fits, line-sized, crossings-read, crossings-zeros}
+use Rattle.tables.proofs.Passes.{Fitting, line-fits, line-sized}
+use Rattle.tables.proofs.Held.{readsOf, zeros-self, crossings-held}
 use Rattle.reading.specs.inner.Rows.{RowRead, RowWritten}
 use Rattle.reading.specs.declared.rows.Row.{Row}
 use Rattle.reading.specs.declared.rows.Row.the-variants.{Passed}
-use Rattle.reading.proofs.Known.{readsOf, zeros-self, send, read-refused, carry-refused, write-refused, line-passes}
+use Rattle.reading.proofs.Known.{send, read-refused, carry-refused, write-refused, line-passes}
 use Rattle.reading.proofs.gathering.wide_line.Statement.{statement}
 use Rattle.reading.proofs.gathering.wide_line.Tie as tie
 
@@ -245,10 +246,9 @@ returns-4 c file Z G =
     let a = s .args in
     let told = reads-passed (behind-reads d) in
     let wrote = writes-told w _ (c .before .end .given .1) file Z in
-    let end = carried-on (a .cursor) (row s + a .shape .switches) (switches-behind d) (row s) (wrote .0) in
-    let crossed = crossings-read _ _ (a .bytes .now) (a .cursor) (shape-same (s .pre .0 .0)) (told .0) (a .t) (s .pre .1 .1) (d .sources .ensures .1) in (
+    let end = carried-on (a .cursor) (row s + a .shape .switches) (switches-behind d) (row s) (wrote .0) in (
       end ∙ ap (onward (a .cursor)) (fits-known s .all),
-      crossed ∙ crossings-zeros Z (a .shape .words) (a .shape .width) (a .t),
+      crossings-held (a .shape) (a .cursor) (a .t) (s .pre .0 .0) Z (s .pre .1 .1) (told .0) (d .sources .ensures .1),
       line-passes (a .shape) (a .cursor) (a .t) (s .pre .0 .0) Z (s .pre .1 .1) G (told .0) (told .1 .sound) (d .sources .ensures .2) (switches-behind d)
           (none-spare (passed w)) (wrote .1),
     )

@@ -3,7 +3,7 @@ use Prim.Native.Nat.{_+_}
 use mathlib.Core.Path.{sym, _∙_}
 use native.Mathlib.Omega.{arith}
 use borrow.Author.Needs.{needs}
-use Rattle.reading.proofs.Groups.{row-address}
+use Rattle.tables.proofs.Groups.{row-address}
 use Rattle.reading.proofs.narrow.pair_in.Statement.{statement}
 use Rattle.reading.proofs.narrow.pair_in.Tie as tie
 

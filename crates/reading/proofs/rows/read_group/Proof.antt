@@ -12,8 +12,9 @@ use Rattle.laws.proofs.Choices.{false-true}
 use Rattle.bits.specs.Bits.{field}
 use Rattle.tables.specs.inner.Lines.{rowAt}
 use Rattle.tables.proofs.Dims.{addressBits-few}
+use Rattle.tables.proofs.Groups.{bits-left, bits-turned, group-address}
 use Rattle.reading.specs.inner.Rows.{ReadOn, ReadTo}
-use Rattle.reading.proofs.Groups.{read-same, bits-left, bits-turned, group-address}
+use Rattle.reading.proofs.Groups.{read-same}
 use Rattle.reading.proofs.rows.read_group.Statement.{statement}
 use Rattle.reading.proofs.rows.read_group.Tie as tie
 

@@ -11,8 +11,9 @@ use Rattle.bits.proofs.OnePass.{onward-none}
 use Rattle.tables.specs.inner.Lines.{rowAt}
 use Rattle.tables.proofs.Dims.{addressBits-few}
 use Rattle.tables.proofs.Cursors.{room-behind, field-behind}
+use Rattle.tables.proofs.Groups.{group-fits, rest-fits, rest-few}
 use Rattle.reading.specs.inner.Rows.{ReadOn, ReadTo}
-use Rattle.reading.proofs.Groups.{read-none, read-same, group-fits, rest-fits, rest-few}
+use Rattle.reading.proofs.Groups.{read-none, read-same}
 use Rattle.reading.proofs.rows.take_reads.Statement.{statement}
 use Rattle.reading.proofs.rows.take_reads.Tie as tie
 

@@ -13,8 +13,9 @@ use Rattle.bits.proofs.OnePass.{onward-none}
 use Rattle.tables.specs.inner.Lines.{rowAt}
 use Rattle.tables.proofs.Dims.{addressBits-few}
 use Rattle.tables.proofs.Cursors.{room-behind, field-behind}
+use Rattle.tables.proofs.Groups.{group-fits, rest-fits, rest-few}
 use Rattle.reading.specs.inner.Rows.{Sending, WriteOn, WriteTo}
-use Rattle.reading.proofs.Groups.{write-none, write-same, group-fits, rest-fits, rest-few}
+use Rattle.reading.proofs.Groups.{write-none, write-same}
 use Rattle.reading.proofs.rows.take_writes.Statement.{statement}
 use Rattle.reading.proofs.rows.take_writes.Tie as tie
 

@@ -11,8 +11,9 @@ use Rattle.laws.proofs.Choices.{false-true}
 use Rattle.bits.specs.Bits.{field}
 use Rattle.tables.specs.inner.Lines.{rowAt}
 use Rattle.tables.proofs.Dims.{addressBits-few}
+use Rattle.tables.proofs.Groups.{bits-left, bits-turned, group-address}
 use Rattle.reading.specs.inner.Rows.{Sending, WriteOn, WriteTo}
-use Rattle.reading.proofs.Groups.{write-same, bits-left, bits-turned, group-address}
+use Rattle.reading.proofs.Groups.{write-same}
 use Rattle.reading.proofs.rows.write_group.Statement.{statement}
 use Rattle.reading.proofs.rows.write_group.Tie as tie
 

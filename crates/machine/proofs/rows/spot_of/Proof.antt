@@ -1,8 +1,8 @@
--- `machine::stepping::spot_of` meets its contract: the index is the spot, and no part of the sum is above it.
+-- `machine::rows::spot_of` meets its contract: the index is the spot, and no part of the sum is above it.
 use native.Mathlib.Omega.{arith}
 use Rattle.machine.proofs.Indexes.{index-spot, index-inside, shape-few}
-use Rattle.machine.proofs.stepping.spot_of.Statement.{statement}
-use Rattle.machine.proofs.stepping.spot_of.Tie as tie
+use Rattle.machine.proofs.rows.spot_of.Statement.{statement}
+use Rattle.machine.proofs.rows.spot_of.Tie as tie
 
 mul-result : tie.Need-mul-result
 mul-result c = let s = c .before in omega (arith, shape-few (s .pre .0))
