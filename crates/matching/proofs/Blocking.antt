@@ -11,10 +11,10 @@ use lib.ListN.{getD}
 use Rattle.laws.specs.Sum.{sum, is, hits}
 use Rattle.laws.proofs.Sums.{is-ne, is-le, is-positive, sum-ext, sum-le, sum-add, sum-mul, sum-swap, sum-is, sum-positive, sum-zero}
 use Rattle.laws.proofs.Pigeonhole.{hits-met}
-use Rattle.matching.specs.Set.{member, _∈_, Collects, Minus}
+use Rattle.sets.specs.Set.{member, _∈_, Collects, Minus}
 use Rattle.matching.specs.Matching.{Owned, ports, Matches, Violator, tried}
 use Rattle.matching.specs.inner.Search.{Closed, Explored}
-use Rattle.matching.proofs.Members.{member-le}
+use Rattle.sets.proofs.Members.{member-le}
 
 -- the factors of a product that is not 0
 factors : (a b : ℕ) → 0 < a * b → (0 < a) × (0 < b)

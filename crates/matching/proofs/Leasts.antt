@@ -5,10 +5,10 @@ use mathlib.Core.List.{List}
 use native.Mathlib.Omega.{arith}
 use native.Mathlib.Decide.{ℕ-discrete}
 use Rattle.limits.specs.Limits.{mostWidth}
-use Rattle.matching.specs.Set.{member, _∈_, Without}
+use Rattle.sets.specs.Set.{member, _∈_, Without}
 use Rattle.matching.specs.First.{keyAt}
 use Rattle.matching.specs.inner.Settling.{Best}
-use Rattle.matching.proofs.Members.{member-zero, without-only, without-kept}
+use Rattle.sets.proofs.Members.{member-zero, without-only, without-kept}
 
 module _ {keys : List ℕ} {bank ports : ℕ} where
   pub best-first : {rest best : ℕ} → best < mostWidth → best ∈ ports → Without ports best rest → Best keys bank ports rest best

@@ -1,7 +1,6 @@
 pub mod Hall
 pub mod Matchings
 pub mod Graphs
-mod Members
 mod Augmenting
 mod Blocking
 mod Completing

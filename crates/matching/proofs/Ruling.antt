@@ -8,10 +8,10 @@ use native.Mathlib.Omega.{arith}
 use native.Mathlib.Decide.{ℕ-discrete, decLe}
 use native.Mathlib.Nat.{le-of-eq}
 use lib.ListN.{getD}
-use Rattle.matching.specs.Set.{member, _∈_}
+use Rattle.sets.specs.Set.{member, _∈_}
 use Rattle.matching.specs.First.{Assigns, Follows}
 use Rattle.matching.specs.inner.Settling.{Settling}
-use Rattle.matching.proofs.Members.{member-le}
+use Rattle.sets.proofs.Members.{member-le}
 use Rattle.matching.proofs.Matchings.{perfect-ports}
 use Rattle.matching.proofs.Blocking.{Crowd, crowd-violator}
 use Rattle.matching.proofs.Hall.{violator-none}

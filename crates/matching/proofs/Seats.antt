@@ -11,12 +11,12 @@ use lib.Seq.{getD-set-same, getD-set-other}
 use Rattle.limits.specs.Limits.{mostWidth}
 use Rattle.laws.specs.Sum.{is, hits}
 use Rattle.laws.proofs.Sums.{is-eq, is-ne, is-le, sum-ext, sum-zero}
-use Rattle.matching.specs.Set.{member, _∈_, Collects, With, Without}
+use Rattle.sets.specs.Set.{member, _∈_, Collects, With, Without}
 use Rattle.matching.specs.Matching.{ports, Perfect, unowned}
 use Rattle.matching.specs.First.{keyAt, Assigns, Follows, Least, Foremost}
 use Rattle.matching.specs.inner.Search.{Partial}
 use Rattle.matching.specs.inner.Settling.{Seating, Keeping, Placed}
-use Rattle.matching.proofs.Members.{member-zero, without-only, without-gone, without-kept, with-cases, with-here, with-there}
+use Rattle.sets.proofs.Members.{member-zero, without-only, without-gone, without-kept, with-cases, with-here, with-there}
 use Rattle.matching.proofs.Matchings.{ports-set, matches-free, one-port}
 use Rattle.matching.proofs.Completing.{partial-perfect}
 

@@ -14,12 +14,12 @@ use Rattle.laws.specs.Sum.{sum, is}
 use Rattle.laws.specs.Permutation.{Permutes}
 use Rattle.laws.proofs.Sums.{is-eq, is-ne, sum-le, sum-change}
 use Rattle.laws.proofs.Permutations.{met-permutes}
-use Rattle.matching.specs.Set.{member, _∈_, With, Without}
+use Rattle.sets.specs.Set.{member, _∈_, With, Without}
 use Rattle.matching.specs.Matching.{Owned, ports, unowned}
 use Rattle.matching.specs.First.{keyAt, Assigns, Follows, Least, Foremost}
 use Rattle.matching.specs.inner.Search.{Ready, Augmented, Failed}
 use Rattle.matching.specs.inner.Settling.{Settling, Settled, Placed}
-use Rattle.matching.proofs.Members.{member-le, member-zero, without-only, without-gone, without-kept, with-cases, with-here, with-there}
+use Rattle.sets.proofs.Members.{member-le, member-zero, without-only, without-gone, without-kept, with-cases, with-here, with-there}
 use Rattle.matching.proofs.Matchings.{ports-set, perfect-ports, perfect-onto}
 use Rattle.matching.proofs.Ruling.{bank-hopeful}
 

@@ -2,7 +2,6 @@
 // fewer ports (Hall). A graph is kept as the set of ports of each bank, a matching as the owner of each port. Only our own crates call
 // these functions, so they may have a `requires`.
 mod search;
-mod sets;
 mod settling;
 
 use limits::MOST_WIDTH;

@@ -7,12 +7,12 @@ ghost use Rattle.matching.specs.Graph.{Edge};
 ghost use Rattle.matching.specs.Matching.{Perfect, Completes};
 ghost use Rattle.matching.specs.inner.Search.{Ready, Searched, Partial};
 use crate::Completed;
-use crate::sets::below;
-use crate::sets::lowest;
-use crate::sets::minus;
-use crate::sets::with;
-use crate::sets::without;
 use limits::MOST_WIDTH;
+use sets::below;
+use sets::lowest;
+use sets::minus;
+use sets::with;
+use sets::without;
 
 // What the search from one bank answers.
 pub enum Search {

@@ -4,7 +4,7 @@ ghost use mathlib.Core.Path.{_≡_};
 ghost use Prim.Native.Nat.{ℕ, _≤_, _<_};
 ghost use lib.ListN.{length, getD};
 ghost use Rattle.limits.specs.Limits.{mostWidth};
-ghost use Rattle.matching.specs.Set.{_∈_};
+ghost use Rattle.sets.specs.Set.{_∈_};
 ghost use Rattle.matching.specs.Graph.{Edge};
 ghost use Rattle.matching.specs.Matching.{Completes, unowned};
 ghost use Rattle.matching.specs.First.{keyAt, keyCount, Foremost};
@@ -15,12 +15,12 @@ use crate::KEYS;
 use crate::search::Search;
 use crate::search::augment;
 use crate::search::complete;
-use crate::sets::below;
-use crate::sets::lowest;
-use crate::sets::tail;
-use crate::sets::with;
-use crate::sets::without;
 use limits::MOST_WIDTH;
+use sets::below;
+use sets::lowest;
+use sets::tail;
+use sets::with;
+use sets::without;
 
 // The free ports, and the banks that own none.
 struct Rest {

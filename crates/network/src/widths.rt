@@ -1,6 +1,6 @@
 // The widths of a network, and the sizes that go with them. Only our own crates call these functions.
 ghost use mathlib.Core.Path.{_≡_};
-ghost use Prim.Native.Nat.{_+_, _*_, _-_, _%_, _<_, _≤_};
+ghost use Prim.Native.Nat.{_-_, _<_, _≤_};
 ghost use lib.ListN.{getD};
 ghost use Rattle.network.specs.Network.{bitCount, partner, depthOf};
 
@@ -56,8 +56,7 @@ pub fn wide(x: u8) -> usize
 
 // The other line of the same switch.
 pub fn partner_of(line: usize) -> usize
-    requires { ⌜ line < 256 ⌝ }
     ensures { λ r. ⌜ r ≡ partner line ⌝ }
 {
-    line + 1 - 2 * (line % 2)
+    line ^ 1
 }

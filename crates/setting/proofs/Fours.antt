@@ -7,7 +7,7 @@ use mathlib.Core.List.{List}
 use native.Mathlib.Omega.{arith}
 use native.Mathlib.Decide.{ℕ-discrete}
 use native.Mathlib.Nat.{two-pow-succ}
-use lib.ListN.{length, getD, set}
+use lib.ListN.{length, getD}
 use lib.Pow.{pow-pos}
 use Rattle.laws.specs.Choice.{choose, ifEq}
 use Rattle.laws.specs.Permutation.{Permutes}
@@ -20,7 +20,7 @@ use Rattle.network.specs.Network.{bitCount}
 use Rattle.network.specs.Setting.{setting}
 use Rattle.network.specs.inner.Sizes.{Sized}
 use Rattle.network.proofs.Unique.{setting-ext}
-use Rattle.setting.specs.inner.Four.{codeOf, coded, bitsOf}
+use Rattle.setting.specs.inner.Four.{codeOf, coded, bitsOf, putFive}
 
 module _ (p : ℕ → ℕ) (P : Permutes 4 p) where
   -- the digits of the code are the first three images
@@ -61,8 +61,7 @@ four-sized {d = suc (suc zero)} s four = (refl, s .1)
 four-sized {d = suc (suc (suc e))} s four = absurd (omega (arith, two-pow-succ (suc (suc e)), two-pow-succ (suc e), two-pow-succ e, pow-pos e))
 
 -- the five stores
-pub four-stored : (bits : List ℕ) (r : ℕ) → length bits ≡ 5
-    → set (set (set (set (set bits 0 (r / 16)) 1 (r / 8 % 2)) 2 (r / 4 % 2)) 3 (r / 2 % 2)) 4 (r % 2) ≡ bitsOf r
+pub four-stored : (bits : List ℕ) (r : ℕ) → length bits ≡ 5 → putFive bits 0 r ≡ bitsOf r
 unfolding tabulate
 four-stored bits r long = rw (tabulate-getD bits 0, long) refl
 

@@ -16,11 +16,12 @@ use Rattle.laws.specs.Splice.{part, splice}
 use Rattle.laws.specs.Tabulate.{tabulate}
 use Rattle.laws.proofs.Permutations.{inverse-below, inverse-left, inverse-unique, inverse-ext, permutes-ext}
 use Rattle.laws.proofs.Splices.{length-part, length-splice, getD-splice-before, getD-splice-inside, getD-splice-behind}
+use Rattle.sets.specs.Set.{member}
 use Rattle.network.specs.Network.{bitCount, exit}
 use Rattle.network.specs.Rule.{Halves, lineInto, inner}
 use Rattle.network.specs.Setting.{chosen, setting}
 use Rattle.network.specs.inner.Sizes.{Sized, innerCount}
-use Rattle.setting.specs.inner.Steps.{Inverses, Placed, Picked, Wirable, Outer, InnerPair, outputsAt}
+use Rattle.setting.specs.inner.Steps.{Inverses, Lower, Placed, Picked, Wirable, Outer, InnerPair, outputsAt}
 use Rattle.network.proofs.Exists.{chosen-halves}
 use Rattle.network.proofs.Levels.{width-even, last-straight, half-lineInto, lineInto-below, lineInto-switch, exit-output, inner-permutes}
 use Rattle.network.proofs.Unique.{setting-ext, setting-level}
@@ -63,13 +64,13 @@ module _ (forward back : List ℕ) (I : Inverses forward back) where
     H = rw w (chosen-halves (2 ^ suc (S .e)) p Q (width-even (S .e)))
 
     -- the outer switches, from halves by the rule
-    module _ (half : List ℕ) (halves : (x : ℕ) → x < n → getD half x 0 ≡ h x) where
+    module _ (low : ℕ) (lower : Lower forward low) where
       -- the half from which an output switch takes its even line
-      pub arrives : (j : ℕ) → 2 * j < n → getD half (getD back (2 * j) 0) 0 ≡ h (inverse n p (2 * j))
-      arrives j l = ap (λ (z : ℕ). getD half z 0) (I .inverts (2 * j) l) ∙ halves (inverse n p (2 * j)) (inverse-below n p (I .permutes) (2 * j) l)
+      pub arrives : (j : ℕ) → 2 * j < n → member low (getD back (2 * j) 0) ≡ h (inverse n p (2 * j))
+      arrives j l = ap (λ (z : ℕ). member low z) (I .inverts (2 * j) l) ∙ lower (inverse n p (2 * j)) (inverse-below n p (I .permutes) (2 * j) l)
 
       pub wirable : {bits upper lower : List ℕ} → length bits ≡ count → n ≤ mostWidth → length upper ≡ mostInner → length lower ≡ mostInner
-          → Wirable half back bits (count - (n / 2 - 1)) upper lower
+          → Wirable low back bits (count - (n / 2 - 1)) upper lower
       wirable {bits} long few above beneath =
           let last : length bits - (count - (n / 2 - 1)) ≡ n / 2 - 1 = omega (arith, S .count-all) in
           record {
@@ -82,12 +83,12 @@ module _ (forward back : List ℕ) (I : Inverses forward back) where
             beneath = beneath;
           }
 
-      pub outer : {k : ℕ} {before bits after : List ℕ} → length before ≡ count → Placed (λ j. getD half (2 * j) 0) 0 (n / 2) before bits
-          → Placed (λ j. getD half (getD back (2 * j) 0) 0) (count - (n / 2 - 1)) k bits after → k ≡ n / 2 - 1 → Outer forward after
+      pub outer : {k : ℕ} {before bits after : List ℕ} → length before ≡ count → Placed (λ j. member low (2 * j)) 0 (n / 2) before bits
+          → Placed (λ j. member low (getD back (2 * j) 0)) (count - (n / 2 - 1)) k bits after → k ≡ n / 2 - 1 → Outer forward after
       outer {k} {before} {bits} {after} long inputs outputs ek = record {
         inputs = λ j l.
             outputs .kept j (omega (arith, S .count-all)) ∙ ap (λ (z : ℕ). getD bits z 0) (sym (zero-add j)) ∙ inputs .placed j l
-            ∙ halves (2 * j) (omega arith);
+            ∙ lower (2 * j) (omega arith);
         outputs = λ j l.
             let at : outputsAt n (length after) + j ≡ count - (n / 2 - 1) + j = omega (arith, outputs .long, inputs .long, S .count-all) in
             rw at (outputs .placed j (omega arith) ∙ arrives j (omega arith));
@@ -114,16 +115,16 @@ module _ (forward back : List ℕ) (I : Inverses forward back) where
           ap (λ (z : ℕ). inverse n p z / 2) out′
           ∙ ap (λ (z : ℕ). z / 2) (inverse-left n p (I .permutes) x (subst (λ (z : ℕ). x < z) (sym w) b)) ∙ lineInto-switch h c i
 
-      pub inner-pair : (half : List ℕ) {rf rb : List ℕ} {m : ℕ} → ((x : ℕ) → x < n → getD half x 0 ≡ h x)
-          → Picked (λ j. getD half (2 * j) 0) (n / 2) forward c rf
-          → Picked (λ j. getD half (getD back (2 * j) 0) 0) m back c rb → m ≡ n / 2 → InnerPair forward c rf rb
+      pub inner-pair : (low : ℕ) {rf rb : List ℕ} {m : ℕ} → Lower forward low
+          → Picked (λ j. member low (2 * j)) (n / 2) forward c rf
+          → Picked (λ j. member low (getD back (2 * j) 0)) m back c rb → m ≡ n / 2 → InnerPair forward c rf rb
       unfolding leaver
-      inner-pair half halves F B em = record {
+      inner-pair low lower F B em = record {
         long = F .long;
         long-back = B .long;
-        performs = λ j l. F .each j l ∙ ap (λ (z : ℕ). getD forward (2 * j + (c + z) % 2) 0 / 2) (halves (2 * j) (omega arith));
+        performs = λ j l. F .each j l ∙ ap (λ (z : ℕ). getD forward (2 * j + (c + z) % 2) 0 / 2) (lower (2 * j) (omega arith));
         inverts = λ j l.
-            B .each j (omega arith) ∙ ap (λ (z : ℕ). getD back (2 * j + (c + z) % 2) 0 / 2) (arrives half halves j (omega arith))
+            B .each j (omega arith) ∙ ap (λ (z : ℕ). getD back (2 * j + (c + z) % 2) 0 / 2) (arrives low lower j (omega arith))
             ∙ ap (λ (z : ℕ). z / 2) (I .inverts (2 * j + (c + h (inverse n p (2 * j))) % 2) (omega arith))
             ∙ inverse-unique (n / 2) (inner p h c) inner-is leaver leaver-inner j l;
       }

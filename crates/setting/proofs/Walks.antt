@@ -1,259 +1,234 @@
--- Finding the halves by walking: a list has the half of each painted line, and 2 or more where a line is free. A walk starts at a free line
--- that belongs to the upper half, and paints the lines of its orbit 0 and their partners 1 until it is back. As `chosen` does not change
--- along an orbit, each line gets its chosen half; between walks whole loops are painted. In the end every line has its half.
+-- Finding the lower half by walking: `left` holds the even lines of the switches that are not settled, `lower` the lines of the lower half of those
+-- that are. A walk starts at a line of such a switch that belongs to the lower half, and settles the switches of its orbit until it is back. As
+-- `chosen` does not change along an orbit, each line that is put in belongs there; between walks whole loops are settled. When no switch is left,
+-- `lower` is the lower half.
 use Prim.Native.Nat.{ℕ, zero, suc, _+_, _*_, _-_, _/_, _%_, _<_, _≤_}
 use mathlib.Core.Path.{_≡_, sym, ap, subst, _∙_}
-use mathlib.Core.List.{List}
 use mathlib.Core.Logic.{_⊎_, inl, inr, ⊎-elim}
 use native.Mathlib.Omega.{arith}
 use native.Mathlib.Numerals.{add-one}
 use native.Mathlib.Decide.{ℕ-discrete, decLt}
-use lib.ListN.{length, getD, set, length-set}
-use lib.Seq.{getD-set-same, getD-set-other}
 use Rattle.laws.specs.Permutation.{Permutes}
+use Rattle.sets.specs.Set.{member, _∈_, Collects, With, Without}
+use Rattle.sets.proofs.Members.{member-le, member-zero, without-only, without-gone, without-kept, with-cases, with-here, with-there}
 use Rattle.network.specs.Network.{partner}
 use Rattle.network.specs.Rule.{Loop, itself, input, Halves}
 use Rattle.network.specs.Setting.{next, chosen}
-use Rattle.network.proofs.Partners.{partner-below, partner-differs, same-switch, next-permutes}
+use Rattle.network.proofs.Partners.{partner-below, same-switch, next-permutes}
 use Rattle.network.proofs.Orbits.{iterate, iterate-suc, iterate-step, iterate-add, iterate-below, orbit-round}
 use Rattle.network.proofs.Loops.{loop-trans, loop-sym, loop-below, orbit-loop, loop-orbit, orbit-partner}
 use Rattle.network.proofs.Halves.{halves-partner, halves-orbit}
 use Rattle.network.proofs.Exists.{chosen-halves}
 
--- between walks
-pub record Painted (n : ℕ) (p : ℕ → ℕ) (h : List ℕ) : Type 0 where
-  pub long : n ≤ length h
-  pub right : (x : ℕ) → x < n → getD h x 0 < 2 → getD h x 0 ≡ chosen n p x
-  pub whole : (x y : ℕ) → x < n → Loop n p x y → getD h x 0 < 2 → getD h y 0 < 2
+-- the even line of the switch of line x
+abbrev pub evenOf : ℕ → ℕ
+evenOf x = x / 2 * 2
 
--- y is one of the first k lines of the orbit of a, or the partner of one
-abbrev pub Passed : ℕ → (ℕ → ℕ) → ℕ → ℕ → ℕ → Type 0
-Passed n p a k y = (i : ℕ) × (i < k) × ((y ≡ iterate (next n p) i a) ⊎ (y ≡ partner (iterate (next n p) i a)))
+-- the switch of line x is not settled
+abbrev pub Left : ℕ → ℕ → Type 0
+Left left x = evenOf x ∈ left
 
--- on a walk from line a, k lines of its orbit done; `before` is the list before the walk
-pub record Walk (n : ℕ) (p : ℕ → ℕ) (before : List ℕ) (a k : ℕ) (h : List ℕ) : Type 0 where
-  pub long : n ≤ length h
-  pub right : (x : ℕ) → x < n → getD h x 0 < 2 → getD h x 0 ≡ chosen n p x
-  pub kept : (x : ℕ) → x < n → getD before x 0 < 2 → getD h x 0 < 2
-  pub done : (i : ℕ) → i < k → (getD h (iterate (next n p) i a) 0 < 2) × (getD h (partner (iterate (next n p) i a)) 0 < 2)
-  pub only : (x : ℕ) → x < n → getD h x 0 < 2 → (getD before x 0 < 2) ⊎ Passed n p a k x
+-- what is put in belongs to the lower half, and each settled switch has a line there
+pub record Sound (n : ℕ) (p : ℕ → ℕ) (left lower : ℕ) : Type 0 where
+  pub right : (x : ℕ) → x < n → x ∈ lower → chosen n p x ≡ 1
+  pub closed : (x : ℕ) → x < n → (Left left x → ⊥) → (x ∈ lower) ⊎ (partner x ∈ lower)
 
--- the line that leaves last is done, and the switches below j
-pub record Swept (n : ℕ) (p : ℕ → ℕ) (j : ℕ) (h : List ℕ) : Type 0 where
-  pub painted : Painted n p h
-  pub last : (x : ℕ) → x < n → p x ≡ n - 1 → getD h x 0 < 2
-  pub lower : (x : ℕ) → x < n → x / 2 < j → getD h x 0 < 2
+-- between walks whole loops are settled, or none of their switches
+pub record Painted (n : ℕ) (p : ℕ → ℕ) (left lower : ℕ) : Type 0 where
+  pub sound : Sound n p left lower
+  pub evens : (k : ℕ) → k ∈ left → (k < n) × (k % 2 ≡ 0)
+  pub whole : (x y : ℕ) → x < n → Loop n p x y → Left left x → Left left y
 
--- a list with all lines free
-pub painted-none : (n : ℕ) (p : ℕ → ℕ) (h : List ℕ) → n ≤ length h → ((x : ℕ) → x < n → 2 ≤ getD h x 0) → Painted n p h
-painted-none n p h long free = record {
-  long = long;
-  right = λ x l s. absurd (omega (arith, free x l));
-  whole = λ x y l r s. absurd (omega (arith, free x l));
-}
+-- on a walk from line a, k lines of its orbit done; `before` holds the switches that were left before it
+pub record Walk (n : ℕ) (p : ℕ → ℕ) (before a k left lower : ℕ) : Type 0 where
+  pub sound : Sound n p left lower
+  pub kept : (j : ℕ) → j ∈ left → j ∈ before
+  pub done : (i : ℕ) → i < k → Left left (iterate (next n p) i a) → ⊥
+  pub only : (x : ℕ) → Left before x → (Left left x → ⊥) → (i : ℕ) × (i < k) × (evenOf x ≡ evenOf (iterate (next n p) i a))
 
--- before the first turn
-pub walk-start : (n : ℕ) (p : ℕ → ℕ) (h : List ℕ) → Painted n p h → (a : ℕ) → Walk n p h a 0 h
-walk-start n p h S a = record {
-  long = S .long;
-  right = S .right;
-  kept = λ x l s. s;
+-- before a walk that starts at line a: the line that leaves last is settled, or the walk settles it
+pub record Before (n : ℕ) (p : ℕ → ℕ) (left lower a : ℕ) : Type 0 where
+  pub painted : Painted n p left lower
+  pub below : a < n
+  pub low : chosen n p a ≡ 1
+  pub free : Left left a
+  pub last : (x : ℕ) → x < n → p x ≡ n - 1 → (Left left x → ⊥) ⊎ (x ≡ a)
+
+pub walk-start : {n : ℕ} {p : ℕ → ℕ} {left lower : ℕ} → Painted n p left lower → (a : ℕ) → Walk n p left a 0 left lower
+walk-start S a = record {
+  sound = S .sound;
+  kept = λ j s. s;
   done = λ i l. absurd (omega arith);
-  only = λ x l s. inl s;
+  only = λ x s f. absurd (f s);
 }
 
--- after it the start is painted
-pub walk-started : (n : ℕ) (p : ℕ → ℕ) (before : List ℕ) (a k : ℕ) (h : List ℕ) → Walk n p before a (k + 1) h → getD h a 0 < 2
-unfolding iterate
-walk-started n p before a k h W = W .done 0 (omega arith) .0
+-- a line is in a set or not
+outside : (x k : ℕ) → (k ∈ x → ⊥) → member x k ≡ 0
+outside x k f = elim (ℕ-discrete (member x k) 1) [ yes e ↦ absurd (f e) | no ne ↦ omega (arith, member-le x k) ]
 
--- line x takes the upper half, its partner the lower
-abbrev pub paint : List ℕ → ℕ → List ℕ
-paint h x = set (set h x 0) (partner x) 1
-
-pub length-paint : (h : List ℕ) (x : ℕ) → length (paint h x) ≡ length h
-length-paint h x = simp length-set
-
-pub paint-self : (h : List ℕ) (x : ℕ) → x < length h → getD (paint h x) x 0 ≡ 0
-paint-self h x l = getD-set-other (set h x 0) (partner x) x 1 0 (λ e. partner-differs x (sym e)) ∙ getD-set-same h x 0 0 l
-
-pub paint-partner : (h : List ℕ) (x : ℕ) → partner x < length h → getD (paint h x) (partner x) 0 ≡ 1
-paint-partner h x l = getD-set-same (set h x 0) (partner x) 1 0 (simp length-set l)
-
-pub paint-other : (h : List ℕ) (x y : ℕ) → (y ≡ x → ⊥) → (y ≡ partner x → ⊥) → getD (paint h x) y 0 ≡ getD h y 0
-paint-other h x y f g = getD-set-other (set h x 0) (partner x) y 1 0 g ∙ getD-set-other h x y 0 0 f
-
--- a painted line is the line itself, its partner, or was painted before
-data Origin (h : List ℕ) (x y : ℕ) : Type 0 where
-  self : y ≡ x → Origin h x y
-  beside : y ≡ partner x → Origin h x y
-  old : getD (paint h x) y 0 ≡ getD h y 0 → Origin h x y
-
-origin : (h : List ℕ) (x y : ℕ) → Origin h x y
-origin h x y = elim (ℕ-discrete y x) [
-  | yes e ↦ self e
-  | no f ↦ elim (ℕ-discrete y (partner x)) [ yes e ↦ beside e | no g ↦ old (paint-other h x y f g) ]
-]
+same : (x y : ℕ) → evenOf x ≡ evenOf y → (y ≡ x) ⊎ (y ≡ partner x)
+same x y e = same-switch x y (omega arith)
 
 module _ (n : ℕ) (p : ℕ → ℕ) (P : Permutes n p) (even : n % 2 ≡ 0) where
-  -- the line beside the one that leaves last belongs to the upper half
-  pub chosen-first : (a : ℕ) → a < n → p (partner a) ≡ n - 1 → chosen n p a ≡ 0
-  chosen-first a l e =
-      let H : Halves n p (chosen n p) = chosen-halves n p P even in
-      omega (arith, H .last (partner a) (partner-below n a even l) e, halves-partner n p (chosen n p) even H a l)
+  H : Halves n p (chosen n p)
+  H = chosen-halves n p P even
 
-  -- one turn of the walk: the next line of the orbit and its partner are painted
-  module _ (before h : List ℕ) (a k : ℕ) (l : a < n) (upper : chosen n p a ≡ 0) (W : Walk n p before a k h) where
+  -- before the first walk, from the line that leaves last
+  pub before-first : (left a : ℕ) → Collects left n (λ k. k % 2 ≡ 0) → a < n → p a ≡ n - 1 → Before n p left 0 a
+  before-first left a C l e = record {
+    painted = record {
+      sound = record {
+        right = λ x m s. absurd (omega (arith, member-zero x));
+        closed = λ x m f. absurd (f (all x m));
+      };
+      evens = C .inside;
+      whole = λ x y m r s. all y (loop-below even m r);
+    };
+    below = l;
+    low = H .last a l e;
+    free = all a l;
+    last = λ x m f. inr (P .injective x a m l (f ∙ sym e));
+  }
+    where
+      all : (x : ℕ) → x < n → Left left x
+      all x m = C .every (evenOf x) (omega arith) (omega arith)
+
+  -- one turn of a walk: the next line of the orbit is put in, and its switch is settled
+  module _ (before a k left lower left′ lower′ : ℕ) (l : a < n) (low : chosen n p a ≡ 1) (W : Walk n p before a k left lower)
+      (put : With lower (iterate (next n p) k a) 1 lower′) (cut : Without left (evenOf (iterate (next n p) k a)) left′) where
     line : ℕ
     line = iterate (next n p) k a
 
-    here : line < n
+    -- a switch that the turn leaves settled was settled before, or is the line's
+    settled : (x : ℕ) → (Left left′ x → ⊥) → (Left left x → ⊥) ⊎ (evenOf x ≡ evenOf line)
     unfolding line
-    here = iterate-below n (next n p) (next-permutes n p P even) k a l
+    settled x f = elim (ℕ-discrete (evenOf x) (evenOf (iterate (next n p) k a))) [
+      | yes e ↦ inr e
+      | no ne ↦ inl (λ s. f (without-kept cut (evenOf x) s ne))
+    ]
 
-    self-painted : getD (paint h line) line 0 ≡ 0
-    self-painted = paint-self h line (omega (arith, here, W .long))
-
-    partner-painted : getD (paint h line) (partner line) 0 ≡ 1
-    partner-painted = paint-partner h line (omega (arith, partner-below n line even here, W .long))
-
-    self-half : chosen n p line ≡ 0
-    unfolding line
-    self-half = halves-orbit n p (chosen n p) P even (chosen-halves n p P even) k a l ∙ upper
-
-    partner-half : chosen n p (partner line) ≡ 1
-    partner-half = omega (arith, self-half, halves-partner n p (chosen n p) even (chosen-halves n p P even) line here)
-
-    stays : (y : ℕ) → getD h y 0 < 2 → getD (paint h line) y 0 < 2
-    stays y s = go (origin h line y)
-      where
-        go : Origin h line y → getD (paint h line) y 0 < 2
-        go (self e) = rw e (omega (arith, self-painted))
-        go (beside e) = rw e (omega (arith, partner-painted))
-        go (old e) = omega arith
-
-    correct : (y : ℕ) → y < n → getD (paint h line) y 0 < 2 → getD (paint h line) y 0 ≡ chosen n p y
-    correct y m s = go (origin h line y)
-      where
-        go : Origin h line y → getD (paint h line) y 0 ≡ chosen n p y
-        go (self e) = rw e (self-painted ∙ sym self-half)
-        go (beside e) = rw e (partner-painted ∙ sym partner-half)
-        go (old e) = e ∙ W .right y m (omega arith)
-
-    inside : (y : ℕ) → y < n → getD (paint h line) y 0 < 2 → (getD before y 0 < 2) ⊎ Passed n p a (k + 1) y
-    unfolding line
-    inside y m s = go (origin h line y)
-      where
-        go : Origin h line y → (getD before y 0 < 2) ⊎ Passed n p a (k + 1) y
-        go (self e) = inr (k, omega arith, inl e)
-        go (beside e) = inr (k, omega arith, inr e)
-        go (old e) = ⊎-elim inl (λ r. inr (r .0, omega (arith, r .1), r .2)) (W .only y m (omega arith))
-
-    pub walk-turn : Walk n p before a (k + 1) (paint h (iterate (next n p) k a))
+    pub walk-turn : Walk n p before a (k + 1) left′ lower′
     unfolding line
     walk-turn = record {
-      long = rw (length-paint h line) (W .long);
-      right = correct;
-      kept = λ y m s. stays y (W .kept y m s);
-      done = λ i m. elim (decLt i k) [
-        | yes b ↦ (stays (iterate (next n p) i a) (W .done i b .0), stays (partner (iterate (next n p) i a)) (W .done i b .1))
-        | no b ↦ let e : i ≡ k = omega arith in rw e (omega (arith, self-painted, partner-painted))
+      sound = record {
+        right = λ x m s.
+            ⊎-elim (W .sound .right x m) (λ e. ap (chosen n p) e ∙ halves-orbit n p (chosen n p) P even H k a l ∙ low) (with-cases put x s);
+        closed = λ x m f.
+            ⊎-elim
+            (λ g. ⊎-elim (λ s. inl (with-there put x s)) (λ s. inr (with-there put (partner x) s)) (W .sound .closed x m g))
+            (λ e. ⊎-elim (λ q. inl (subst (λ (z : ℕ). z ∈ lower′) q (with-here put))) (λ q. inr (subst (λ (z : ℕ). z ∈ lower′) q (with-here put)))
+            (same x line e))
+            (settled x f);
+      };
+      kept = λ j s. W .kept j (without-only cut j s);
+      done = λ i m s. elim (decLt i k) [
+        | yes b ↦ W .done i b (without-only cut _ s)
+        | no b ↦ let e : i ≡ k = omega arith in without-gone cut (subst (λ (z : ℕ). Left left′ (iterate (next n p) z a)) e s)
       ];
-      only = inside;
+      only = λ x s f.
+          ⊎-elim (λ g. let r = W .only x s g in (r .0, omega (arith, r .1), r .2)) (λ e. (k, omega arith, e)) (settled x f);
     }
 
-  -- what is passed is in the loop
-  passed-loop : (a k y : ℕ) → a < n → Passed n p a k y → Loop n p a y
-  passed-loop a k y l r =
-      ⊎-elim (λ e. subst (Loop n p a) (sym e) (orbit-loop n p P even (r .0) a l))
-      (λ e. subst (Loop n p a) (sym e) (input (orbit-loop n p P even (r .0) a l))) (r .2)
+  -- a switch that a walk settled is in its loop
+  passed-loop : (a i x : ℕ) → a < n → evenOf x ≡ evenOf (iterate (next n p) i a) → Loop n p a x
+  passed-loop a i x l e =
+      ⊎-elim (λ q. subst (Loop n p a) (sym q) (orbit-loop n p P even i a l)) (λ q. subst (Loop n p a) (sym q) (input (orbit-loop n p P even i a l)))
+      (same (iterate (next n p) i a) x (sym e))
 
-  -- a walk that has met the whole orbit leaves whole loops
-  walk-done : (before h : List ℕ) (a k : ℕ) → a < n → Painted n p before → Walk n p before a k h
-      → ((i : ℕ) → (j : ℕ) × (j < k) × (iterate (next n p) i a ≡ iterate (next n p) j a)) → Painted n p h
-  walk-done before h a k l S W all = record {
-    long = W .long;
-    right = W .right;
-    whole = λ x y m r s.
-        ⊎-elim (λ b. W .kept y (loop-below even m r) (S .whole x y m r b)) (λ b. reached y (loop-trans (passed-loop a k x l b) r)) (W .only x m s);
-  }
+  -- a walk that is back at its start leaves whole loops
+  module _ (k : ℕ) {before a left lower lower₀ : ℕ} (B : Before n p before lower₀ a) (W : Walk n p before a (k + 1) left lower) where
+    abbrev orbit : ℕ → ℕ
+    orbit i = iterate (next n p) i a
+
+    module _ (back : orbit (k + 1) ≡ a) where
+      -- no switch of its loop is left
+      loop-done : (y : ℕ) → Loop n p a y → Left left y → ⊥
+      loop-done y r s =
+          let t = loop-orbit n p P even a y (B .below) r in
+          let j = orbit-round n (next n p) (next-permutes n p P even) a k (rw add-one at back) (t .0) in
+          let e : evenOf y ≡ evenOf (orbit (j .0)) =
+          ⊎-elim (λ q. ap evenOf (q ∙ j .2)) (λ q. ap evenOf q ∙ beside (orbit (t .0)) ∙ ap evenOf (j .2)) (t .1) in
+          W .done (j .0) (omega (arith, j .1)) (subst (λ (z : ℕ). z ∈ left) e s)
+        where
+          beside : (x : ℕ) → evenOf (partner x) ≡ evenOf x
+          beside x = omega arith
+
+      pub walk-back : Painted n p left lower
+      walk-back = record {
+        sound = W .sound;
+        evens = λ j s. B .painted .evens j (W .kept j s);
+        whole = λ x y m r s. elim (ℕ-discrete (member left (evenOf y)) 1) [
+          | yes e ↦ e
+          | no ne ↦
+              let q = W .only y (B .painted .whole x y m r (W .kept _ s)) ne in
+              absurd (loop-done x (loop-trans (passed-loop a (q .0) y (B .below) (q .2)) (loop-sym even m r)) s)
+        ];
+      }
+
+      -- and the line that leaves last settled
+      pub last-done : (x : ℕ) → x < n → p x ≡ n - 1 → Left left x → ⊥
+      last-done x m e s = ⊎-elim (λ f. f (W .kept _ s)) (λ q. loop-done x (subst (Loop n p a) (sym q) itself) s) (B .last x m e)
+
+    -- where it is not back, the next switch is left: it belongs to the loop, and of the orbit's lines only the start comes after a settled one
+    pub walk-free : {left₀ lower′ : ℕ} → Walk n p before a k left₀ lower′ → Left left₀ (orbit k) → (orbit (k + 1) ≡ a → ⊥) → Left left (orbit (k + 1))
+    unfolding iterate
+    walk-free {left₀} U here away = elim (ℕ-discrete (member left (evenOf (orbit (k + 1)))) 1) [
+      | yes e ↦ e
+      | no ne ↦
+          let q = W .only x (B .painted .whole a x (B .below) (orbit-loop n p P even (k + 1) a (B .below)) (B .free)) ne in
+          absurd (⊎-elim (again (q .0) (q .1)) (across (q .0) (q .1)) (same (orbit (q .0)) x (sym (q .2))))
+    ]
+      where
+        x : ℕ
+        x = orbit (k + 1)
+
+        below : (i : ℕ) → orbit i < n
+        below i = iterate-below n (next n p) (next-permutes n p P even) i a (B .below)
+
+        again : (i : ℕ) → i < k + 1 → x ≡ orbit i → ⊥
+        again zero b e = away e
+        again (suc i) b e =
+            let met : orbit k ≡ orbit i =
+            next-permutes n p P even .injective (orbit k) (orbit i) (below k) (below i)
+            (sym (iterate-step (next n p) k a) ∙ e ∙ iterate-suc (next n p) i a) in
+            U .done i (omega arith) (subst (λ (z : ℕ). Left left₀ z) met here)
+
+        across : (i : ℕ) → i < k + 1 → x ≡ partner (orbit i) → ⊥
+        across i b e =
+            let sum : i + (k + 1 - i) ≡ k + 1 = omega arith in
+            orbit-partner n p P even (k + 1 - i) (orbit i) (below i)
+            (sym (iterate-add (next n p) i (k + 1 - i) a) ∙ ap (λ (z : ℕ). iterate (next n p) z a) sum ∙ e)
+
+  -- before a later walk: in the loop of the lowest switch that is left, its odd line goes low
+  pub before-more : (left lower j : ℕ) → Painted n p left lower → ((x : ℕ) → x < n → p x ≡ n - 1 → Left left x → ⊥)
+      → j ∈ left → ((i : ℕ) → i ∈ left → j ≤ i) → Before n p left lower (j + 1)
+  before-more left lower j S last here least =
+      let l : j < n = S .evens j here .0 in
+      let e : j % 2 ≡ 0 = S .evens j here .1 in
+      let own : evenOf j ≡ j = omega arith in
+      let odd : evenOf (j + 1) ≡ j = omega arith in
+      let beside : partner j ≡ j + 1 = omega arith in
+      let left-loop : (y : ℕ) → Loop n p j y → Left left y = λ y r. S .whole j y l r (subst (λ (z : ℕ). z ∈ left) (sym own) here) in
+      let upper : chosen n p j ≡ 0 =
+      H .lowest j l e (λ y r f. last y (loop-below even l r) f (left-loop y r)) (λ y r. omega (arith, least (evenOf y) (left-loop y r))) in
+      let odd-low : chosen n p (partner j) ≡ 1 = omega (arith, halves-partner n p (chosen n p) even H j l, upper) in
+      let low : chosen n p (j + 1) ≡ 1 = rw beside at odd-low in
+      record {
+        painted = S;
+        below = omega arith;
+        low = low;
+        free = subst (λ (z : ℕ). z ∈ left) (sym odd) here;
+        last = λ x m f. inl (last x m f);
+      }
+
+  -- when no switch is left
+  pub all-settled : (left lower : ℕ) → left ≡ 0 → Sound n p left lower → (x : ℕ) → x < n → member lower x ≡ chosen n p x
+  all-settled left lower none S x l =
+      ⊎-elim (λ s. s ∙ sym (S .right x l s)) beside
+      (S .closed x l (λ s. omega (arith, ap (λ (z : ℕ). member z (evenOf x)) none, member-zero (evenOf x))))
     where
-      reached : (y : ℕ) → Loop n p a y → getD h y 0 < 2
-      reached y r =
-          let t = loop-orbit n p P even a y l r in
-          let j = all (t .0) in
-          ⊎-elim (λ e. let at : y ≡ iterate (next n p) (j .0) a = e ∙ j .2 in rw at (W .done (j .0) (j .1) .0))
-          (λ e. let at : y ≡ partner (iterate (next n p) (j .0) a) = e ∙ ap (λ (z : ℕ). partner z) (j .2) in rw at (W .done (j .0) (j .1) .1))
-          (t .1)
-
-  -- that is the case when it is back at its start
-  pub walk-back : (before h : List ℕ) (a k : ℕ) → a < n → Painted n p before → Walk n p before a (k + 1) h
-      → iterate (next n p) (k + 1) a ≡ a → Painted n p h
-  walk-back before h a k l S W back =
-      walk-done before h a (k + 1) l S W (λ i.
-      let r = orbit-round n (next n p) (next-permutes n p P even) a k (rw add-one at back) i in
-      (r .0, omega (arith, r .1), r .2))
-
-  -- and it is back when the next line is painted: a line of an earlier loop is not in this one, a partner is not in the orbit, and the
-  -- line before a later line of the orbit was painted
-  pub walk-closes : (before h h′ : List ℕ) (a k : ℕ) → a < n → Painted n p before → 2 ≤ getD before a 0 → Walk n p before a k h
-      → 2 ≤ getD h (iterate (next n p) k a) 0 → Walk n p before a (k + 1) h′ → getD h′ (iterate (next n p) (k + 1) a) 0 < 2
-      → iterate (next n p) (k + 1) a ≡ a
-  unfolding iterate
-  walk-closes before h h′ a k l S free W here W′ met =
-      ⊎-elim
-      (λ b. let t : getD before a 0 < 2 = S .whole x a m (loop-sym even l (orbit-loop n p P even (k + 1) a l)) b in absurd (omega arith))
-      (λ r. ⊎-elim (again (r .0) (r .1)) (λ e. absurd (across (r .0) (r .1) e)) (r .2))
-      (W′ .only x m met)
-    where
-      x : ℕ
-      x = iterate (next n p) (k + 1) a
-
-      m : x < n
-      m = iterate-below n (next n p) (next-permutes n p P even) (k + 1) a l
-
-      again : (i : ℕ) → i < k + 1 → x ≡ iterate (next n p) i a → x ≡ a
-      again zero b e = e
-      again (suc i) b e =
-          let same : iterate (next n p) k a ≡ iterate (next n p) i a =
-          next-permutes n p P even .injective (iterate (next n p) k a) (iterate (next n p) i a)
-          (iterate-below n (next n p) (next-permutes n p P even) k a l) (iterate-below n (next n p) (next-permutes n p P even) i a l)
-          (sym (iterate-step (next n p) k a) ∙ e ∙ iterate-suc (next n p) i a) in
-          absurd (omega (arith, W .done i (omega arith) .0, ap (λ (y : ℕ). getD h y 0) same))
-
-      across : (i : ℕ) → i < k + 1 → x ≡ partner (iterate (next n p) i a) → ⊥
-      across i b e =
-          let sum : i + (k + 1 - i) ≡ k + 1 = omega arith in
-          orbit-partner n p P even (k + 1 - i) (iterate (next n p) i a) (iterate-below n (next n p) (next-permutes n p P even) i a l)
-          (sym (iterate-add (next n p) i (k + 1 - i) a) ∙ ap (λ (z : ℕ). iterate (next n p) z a) sum ∙ e)
-
-  -- after the walk from the line beside the one that leaves last
-  pub swept-first : (h : List ℕ) (a : ℕ) → a < n → p (partner a) ≡ n - 1 → Painted n p h → getD h a 0 < 2 → Swept n p 0 h
-  swept-first h a l e S s = record {
-    painted = S;
-    last = λ x m f.
-        let same : partner a ≡ x = P .injective (partner a) x (partner-below n a even l) m (e ∙ sym f) in
-        rw (← same) (S .whole a (partner a) l (input itself) s);
-    lower = λ x m b. absurd (omega arith);
-  }
-
-  -- the even line of a switch that is still free belongs to the upper half: its loop holds no painted line
-  pub swept-upper : (h : List ℕ) (j : ℕ) → Swept n p j h → 2 * j < n → 2 ≤ getD h (2 * j) 0 → chosen n p (2 * j) ≡ 0
-  swept-upper h j S l free =
-      let clash : (y : ℕ) → Loop n p (2 * j) y → getD h y 0 < 2 → ⊥ =
-      λ y r s. let t : getD h (2 * j) 0 < 2 = S .painted .whole y (2 * j) (loop-below even l r) (loop-sym even l r) s in omega arith in
-      chosen-halves n p P even .lowest (2 * j) l (omega arith) (λ y r e. clash y r (S .last y (loop-below even l r) e))
-      (λ y r. elim (decLt (y / 2) j) [ yes m ↦ absurd (clash y r (S .lower y (loop-below even l r) m)) | no m ↦ omega arith ])
-
-  -- once its even line is painted, the switch is done
-  pub swept-turn : (h h′ : List ℕ) (j : ℕ) → Swept n p j h → Painted n p h′ → ((x : ℕ) → x < n → getD h x 0 < 2 → getD h′ x 0 < 2)
-      → 2 * j < n → getD h′ (2 * j) 0 < 2 → Swept n p (j + 1) h′
-  swept-turn h h′ j S T kept l s = record {
-    painted = T;
-    last = λ x m e. kept x m (S .last x m e);
-    lower = λ x m b. elim (decLt (x / 2) j) [
-      | yes c ↦ kept x m (S .lower x m c)
-      | no c ↦
-          ⊎-elim (λ e. rw e s) (λ e. rw e (T .whole (2 * j) (partner (2 * j)) l (input itself) s)) (same-switch (2 * j) x (omega arith))
-    ];
-  }
+      beside : partner x ∈ lower → member lower x ≡ chosen n p x
+      beside s =
+          let low : chosen n p (partner x) ≡ 1 = S .right (partner x) (partner-below n x even l) s in
+          let sum = halves-partner n p (chosen n p) even H x l in
+          outside lower x (λ t. omega (arith, S .right x l t)) ∙ omega arith

@@ -4,63 +4,59 @@ ghost use Prim.Native.Nat.{ℕ, _+_, _*_, _-_, _/_, _%_, _<_, _≤_};
 ghost use lib.ListN.{length, getD};
 ghost use Rattle.limits.specs.Limits.{mostWidth, mostInner};
 ghost use Rattle.laws.specs.Permutation.{Permutes};
-ghost use Rattle.network.specs.Setting.{setting, chosen};
+ghost use Rattle.sets.specs.Set.{Collects};
+ghost use Rattle.network.specs.Setting.{setting};
 ghost use Rattle.network.specs.inner.Sizes.{Sized};
-ghost use Rattle.setting.specs.inner.Four.{codeOf, coded, bitsOf};
-ghost use Rattle.setting.specs.inner.Steps.{startAt, Inverses, InputsSet, Wirable, OutputsSet, Outer, InnerPair};
+ghost use Rattle.setting.specs.inner.Four.{codeOf, coded, bitsOf, putFive, innerImage, putInputs, putOutputs};
+ghost use Rattle.setting.specs.inner.Steps.{Inverses, Lower, InputsSet, Wirable, OutputsSet, Outer, InnerPair};
 use limits::MOST_INNER;
-use limits::MOST_WIDTH;
 use network::partner_of;
-use network::value_at;
 use network::wide;
+use sets::lowest;
+use sets::member_of;
+use sets::with;
+use sets::without;
 
-// The line at which walk number t starts: first the one beside the line that leaves last, then the even line of each switch.
-fn start_of(back: &[u8], t: usize) -> usize
-    requires { ⌜ (0 < length (now back)) × (t < 256) ⌝ }
-    ensures { λ r. ⌜ r ≡ startAt (now (back .entry)) t ⌝ }
+// The even lines of n lines, one for each switch.
+fn even_lines(n: usize) -> u64
+    requires { ⌜ (n % 2 ≡ 0) × (0 < n) × (n ≤ mostWidth) ⌝ }
+    ensures { λ r. ⌜ Collects r n (λ k. k % 2 ≡ 0) ⌝ }
 {
-    if t == 0 {
-        return partner_of(value_at(back, back.len() - 1));
-    }
-    2 * (t - 1)
+    0x5555_5555_5555_5555u64 >> (64 - n)
 }
 
-// The half of each line by the rule; 2 stands for none yet. `forward` is the permutation and `back` its inverse. A walk ends where its loop
-// closes, at its start, and leaves with the half that is settled there.
-fn halves(forward: &[u8], back: &[u8]) -> [u8; MOST_WIDTH]
+// The lines that take the lower half by the rule. `forward` is the permutation and `back` its inverse. A walk goes over the lines of its loop that
+// belong to the lower half: first of the loop of the line that leaves last, then of the loop of the lowest switch that is still left, whose odd
+// line goes low. It ends where the loop closes, at its start, and leaves with the half that is settled.
+fn lower_lines(forward: &[u8], back: &[u8]) -> u64
     requires { ⌜ Inverses (now forward) (now back) ⌝ }
     requires { ⌜ (length (now forward) % 2 ≡ 0) × (length (now forward) ≤ mostWidth) × (0 < length (now forward)) ⌝ }
-    ensures { λ r. ⌜ ((x : ℕ) → x < length (now (forward .entry))
-        → getD r x 0 ≡ chosen (length (now (forward .entry))) (λ i. getD (now (forward .entry)) i 0) x) ⌝ }
+    ensures { λ r. ⌜ Lower (now (forward .entry)) r ⌝ }
 {
     let n = forward.len();
-    let mut half = [2u8; MOST_WIDTH];
-    let mut t = 0;
-    'starts: while t <= n / 2 {
-        let start = start_of(back, t);
-        t += 1;
-        if half[start] < 2 {
-            continue 'starts;
-        }
+    let mut left = even_lines(n);
+    let mut lower: u64 = 0;
+    let mut start = wide(back[n - 1]);
+    'loops: loop {
         let mut x = start;
         let settled = 'walk: loop {
-            half[x] = 0;
-            let y = partner_of(x);
-            half[y] = 1;
-            x = value_at(back, partner_of(value_at(forward, y)));
-            let met = half[x];
-            if met < 2 {
-                break 'walk met;
+            lower = with(lower, x, 1);
+            left = without(left, x / 2 * 2);
+            x = wide(back[partner_of(wide(forward[partner_of(x)]))]);
+            if x == start {
+                break 'walk lower;
             }
         };
-        half[start] = settled;
+        if left == 0 {
+            break 'loops settled;
+        }
+        start = lowest(left) + 1;
     }
-    half
 }
 
 // The input switches: a switch is crossed where its even line takes the lower half. The halves get what they have to perform.
 fn set_inputs(
-    half: &[u8; MOST_WIDTH],
+    low: u64,
     forward: &[u8],
     bits: &mut [u8],
     upper: &mut [u8; MOST_INNER],
@@ -70,13 +66,13 @@ fn set_inputs(
         × (length (now forward) / 2 ≤ length (now bits))
         × (length (now upper) ≡ mostInner)
         × (length (now lower) ≡ mostInner) ⌝ }
-    ensures { λ _. ⌜ InputsSet (now (half .entry)) (now (forward .entry))
+    ensures { λ _. ⌜ InputsSet low (now (forward .entry))
         (now (bits .entry)) (now (bits .exit)) (now (upper .exit)) (now (lower .exit)) ⌝ }
 {
     let m = forward.len() / 2;
     let mut j = 0;
     while j < m {
-        let bit = half[2 * j];
+        let bit = member_of(low, 2 * j);
         bits[j] = bit;
         let crossed = wide(bit) % 2;
         upper[j] = forward[2 * j + crossed] / 2;
@@ -88,21 +84,21 @@ fn set_inputs(
 // The output switches, whose bits start at `from`: a switch is crossed where its even line comes from the lower half. The last one has
 // no bit and stands straight. The halves get the inverse of what they have to perform.
 fn set_outputs(
-    half: &[u8; MOST_WIDTH],
+    low: u64,
     back: &[u8],
     bits: &mut [u8],
     from: usize,
     upper: &mut [u8; MOST_INNER],
     lower: &mut [u8; MOST_INNER],
 )
-    requires { ⌜ Wirable (now half) (now back) (now bits) from (now upper) (now lower) ⌝ }
-    ensures { λ _. ⌜ OutputsSet (now (half .entry)) (now (back .entry)) from
+    requires { ⌜ Wirable low (now back) (now bits) from (now upper) (now lower) ⌝ }
+    ensures { λ _. ⌜ OutputsSet low (now (back .entry)) from
         (now (bits .entry)) (now (bits .exit)) (now (upper .exit)) (now (lower .exit)) ⌝ }
 {
     let last = bits.len() - from;
     let mut j = 0;
     while j < last {
-        let bit = half[wide(back[2 * j])];
+        let bit = member_of(low, wide(back[2 * j]));
         bits[from + j] = bit;
         let crossed = wide(bit) % 2;
         upper[j] = back[2 * j + crossed] / 2;
@@ -136,9 +132,9 @@ fn set_outer(
     ensures { λ _. ⌜ InnerPair (now (forward .entry)) 1 (now (lower .exit)) (now (lowerback .exit)) ⌝ }
 {
     let from = bits.len() - (forward.len() / 2 - 1);
-    let half = halves(forward, back);
-    set_inputs(&half, forward, bits, upper, lower);
-    set_outputs(&half, back, bits, from, upperback, lowerback);
+    let low = lower_lines(forward, back);
+    set_inputs(low, forward, bits, upper, lower);
+    set_outputs(low, back, bits, from, upperback, lowerback);
 }
 
 // The code of a permutation of four lines: the images of its first three lines, as digits to the base 4.
@@ -185,18 +181,78 @@ fn setting_of_four(code: usize) -> u8
     }
 }
 
+// Stores the five bits of the setting of four lines from `bits[from]` on.
+fn put_five(bits: &mut [u8], from: usize, setting: u8)
+    requires { ⌜ (from + 5 ≤ length (now bits)) × (from < mostWidth) ⌝ }
+    ensures { λ _. ⌜ now (bits .exit) ≡ putFive (now (bits .entry)) from setting ⌝ }
+{
+    bits[from] = setting / 16;
+    bits[from + 1] = setting / 8 % 2;
+    bits[from + 2] = setting / 4 % 2;
+    bits[from + 3] = setting / 2 % 2;
+    bits[from + 4] = setting % 2;
+}
+
 // The bits of a network of four lines, from the table.
 fn set_four(forward: &[u8], bits: &mut [u8])
     requires { ⌜ (length (now forward) ≡ 4) × (length (now bits) ≡ 5) ⌝ }
     requires { ⌜ Permutes 4 (λ i. getD (now forward) i 0) ⌝ }
     ensures { λ _. ⌜ now (bits .exit) ≡ setting 2 (λ i. getD (now (forward .entry)) i 0) ⌝ }
 {
-    let setting = setting_of_four(code_of(forward));
-    bits[0] = setting / 16;
-    bits[1] = setting / 8 % 2;
-    bits[2] = setting / 4 % 2;
-    bits[3] = setting / 2 % 2;
-    bits[4] = setting % 2;
+    put_five(bits, 0, setting_of_four(code_of(forward)));
+}
+
+// Where the line of a half at input switch j of eight lines goes, among the four lines of that half.
+fn inner_image(forward: &[u8], low: u64, half: usize, j: usize) -> usize
+    requires { ⌜ (length (now forward) ≡ 8) × (half < 2) × (j < 4) ⌝ }
+    ensures { λ r. ⌜ r ≡ innerImage (now (forward .entry)) low half j ⌝ }
+{
+    wide(forward[2 * j + (half + wide(member_of(low, 2 * j))) % 2]) / 2
+}
+
+// The code of what a half of eight lines has to perform.
+fn inner_code(forward: &[u8], low: u64, half: usize) -> usize
+    requires { ⌜ (length (now forward) ≡ 8) × (half < 2) × Permutes 4 (innerImage (now forward) low half) ⌝ }
+    ensures { λ r. ⌜ r ≡ codeOf (innerImage (now (forward .entry)) low half) ⌝ }
+{
+    let second = inner_image(forward, low, half, 1);
+    let third = inner_image(forward, low, half, 2);
+    inner_image(forward, low, half, 0) + 4 * second + 16 * third
+}
+
+// Stores the bits of the four input switches of eight lines.
+fn put_inputs(bits: &mut [u8], low: u64)
+    requires { ⌜ length (now bits) ≡ 17 ⌝ }
+    ensures { λ _. ⌜ now (bits .exit) ≡ putInputs (now (bits .entry)) low ⌝ }
+{
+    bits[0] = member_of(low, 0);
+    bits[1] = member_of(low, 2);
+    bits[2] = member_of(low, 4);
+    bits[3] = member_of(low, 6);
+}
+
+// Stores the bits of the output switches of eight lines but the last.
+fn put_outputs(bits: &mut [u8], low: u64, back: &[u8])
+    requires { ⌜ (length (now bits) ≡ 17) × (length (now back) ≡ 8) × ((y : ℕ) → y < 8 → getD (now back) y 0 < 8) ⌝ }
+    ensures { λ _. ⌜ now (bits .exit) ≡ putOutputs (now (bits .entry)) low (now (back .entry)) ⌝ }
+{
+    bits[14] = member_of(low, wide(back[0]));
+    bits[15] = member_of(low, wide(back[2]));
+    bits[16] = member_of(low, wide(back[4]));
+}
+
+// The bits of a network of eight lines: those of its outer switches by the rule, those of its halves from the table.
+fn set_eight(forward: &[u8], back: &[u8], bits: &mut [u8])
+    requires { ⌜ (length (now forward) ≡ 8) × (length (now bits) ≡ 17) × Inverses (now forward) (now back) ⌝ }
+    ensures { λ _. ⌜ now (bits .exit) ≡ setting 3 (λ i. getD (now (forward .entry)) i 0) ⌝ }
+{
+    let low = lower_lines(forward, back);
+    let upper = setting_of_four(inner_code(forward, low, 0));
+    let lower = setting_of_four(inner_code(forward, low, 1));
+    put_inputs(bits, low);
+    put_five(bits, 4, upper);
+    put_five(bits, 9, lower);
+    put_outputs(bits, low, back);
 }
 
 // The bits of a network for the permutation `forward`, whose inverse is `back`. The width halves from call to call.
@@ -220,6 +276,11 @@ pub fn set_bits(forward: &[u8], back: &[u8], bits: &mut [u8])
     // Four lines have few enough permutations to list their settings.
     if width == 4 {
         set_four(forward, bits);
+        return;
+    }
+    // Eight lines have four in each half, and need no arrays.
+    if width == 8 {
+        set_eight(forward, back, bits);
         return;
     }
     let m = width / 2;

@@ -4,7 +4,7 @@ use mathlib.Core.Path.{_≡_}
 use mathlib.Core.List.{List}
 use lib.ListN.{length, getD}
 use Rattle.limits.specs.Limits.{mostWidth}
-use Rattle.matching.specs.Set.{_∈_, Collects}
+use Rattle.sets.specs.Set.{_∈_, Collects}
 use Rattle.matching.specs.Matching.{Owned, ports, Matches, Perfect, unowned}
 use Rattle.matching.specs.First.{keyAt, Least}
 

@@ -4,22 +4,21 @@ use mathlib.Core.Path.{_≡_}
 use mathlib.Core.List.{List}
 use lib.ListN.{length, getD}
 use Rattle.limits.specs.Limits.{mostWidth, mostInner}
-use Rattle.laws.specs.Choice.{ifEq}
 use Rattle.laws.specs.Permutation.{Permutes, inverse}
-use Rattle.network.specs.Network.{partner}
+use Rattle.sets.specs.Set.{member}
 use Rattle.network.specs.Rule.{inner}
 use Rattle.network.specs.Setting.{chosen}
 use Rattle.network.specs.inner.Sizes.{innerCount}
-
--- where walk number t starts: at the line beside the one that leaves last, then at the even line of each switch
-unfoldable pub startAt : List ℕ → ℕ → ℕ
-startAt back t = ifEq t 0 (partner (getD back (length back - 1) 0)) (2 * (t - 1))
 
 -- back lists the inverse of the permutation that forward lists
 pub record Inverses (forward back : List ℕ) : Type 0 where
   pub long : length back ≡ length forward
   pub permutes : Permutes (length forward) (λ i. getD forward i 0)
   pub inverts : (y : ℕ) → y < length forward → getD back y 0 ≡ inverse (length forward) (λ i. getD forward i 0) y
+
+-- the set holds, of the lines that forward lists, those that take the lower half by the rule
+abbrev pub Lower : List ℕ → ℕ → Type 0
+Lower forward low = (x : ℕ) → x < length forward → member low x ≡ chosen (length forward) (λ i. getD forward i 0) x
 
 -- bits of n switches stand from `from` on, where switch j has `bit j`, and before them all is as it was
 pub record Placed (bit : ℕ → ℕ) (from n : ℕ) (before after : List ℕ) : Type 0 where
@@ -39,21 +38,21 @@ pub record Divided (bit : ℕ → ℕ) (from n m : ℕ) (images before after upp
   pub beneath : Picked bit m images 1 lower
 
 -- the input switches stand by the halves of their even lines, and the output switches by the halves from which their even lines come
-abbrev pub InputsSet : List ℕ → List ℕ → List ℕ → List ℕ → List ℕ → List ℕ → Type 0
-InputsSet half forward before after upper lower =
-    Divided (λ j. getD half (2 * j) 0) 0 (length forward / 2) (length forward / 2) forward before after upper lower
+abbrev pub InputsSet : ℕ → List ℕ → List ℕ → List ℕ → List ℕ → List ℕ → Type 0
+InputsSet low forward before after upper lower =
+    Divided (λ j. member low (2 * j)) 0 (length forward / 2) (length forward / 2) forward before after upper lower
 
-abbrev pub OutputsSet : List ℕ → List ℕ → ℕ → List ℕ → List ℕ → List ℕ → List ℕ → Type 0
-OutputsSet half back from before after upper lower =
-    Divided (λ j. getD half (getD back (2 * j) 0) 0) from (length before - from) (length back / 2) back before after upper lower
+abbrev pub OutputsSet : ℕ → List ℕ → ℕ → List ℕ → List ℕ → List ℕ → List ℕ → Type 0
+OutputsSet low back from before after upper lower =
+    Divided (λ j. member low (getD back (2 * j) 0)) from (length before - from) (length back / 2) back before after upper lower
 
 -- room for the bits of the output switches of as many lines as back lists, and for what the halves get; the last switch stands straight
-pub record Wirable (half back bits : List ℕ) (from : ℕ) (upper lower : List ℕ) : Type 0 where
+pub record Wirable (low : ℕ) (back bits : List ℕ) (from : ℕ) (upper lower : List ℕ) : Type 0 where
   pub few : length back ≤ mostWidth
   pub lines : (y : ℕ) → y < length back → getD back y 0 < mostWidth
   pub behind : from ≤ length bits
   pub room : length back / 2 ≡ length bits - from + 1
-  pub straight : getD half (getD back (2 * (length bits - from)) 0) 0 ≡ 0
+  pub straight : member low (getD back (2 * (length bits - from)) 0) ≡ 0
   pub above : length upper ≡ mostInner
   pub beneath : length lower ≡ mostInner
 

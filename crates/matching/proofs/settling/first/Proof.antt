@@ -3,7 +3,7 @@ use Prim.Native.Nat.{ℕ, _<_}
 use mathlib.Core.Path.{_≡_, subst}
 use mathlib.Core.List.{List}
 use native.Mathlib.Omega.{arith}
-use Rattle.matching.specs.Set.{_∈_}
+use Rattle.sets.specs.Set.{_∈_}
 use Rattle.matching.specs.Matching.{Concluded, Completes}
 use Rattle.matching.specs.declared.Completed.{Completed}
 use Rattle.matching.specs.declared.Completed.the-variants.{Matched}

@@ -2,7 +2,7 @@
 -- number.
 use mathlib.Core.Path.{_≡_, refl}
 use native.Mathlib.Omega.{arith}
-use Rattle.matching.specs.Set.{Without}
+use Rattle.sets.specs.Set.{Without}
 use Rattle.matching.specs.First.{keyAt}
 use Rattle.matching.specs.inner.Settling.{Best}
 use Rattle.matching.proofs.Leasts.{best-first, best-same, best-next, best-all}

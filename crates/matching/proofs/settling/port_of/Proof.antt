@@ -4,8 +4,8 @@ use mathlib.Core.Path.{_≡_, ap, sym, _∙_}
 use native.Mathlib.Omega.{arith}
 use borrow.Author.Needs.{needs}
 use lib.ListN.{getD}
-use Rattle.matching.specs.Set.{member, _∈_, Without}
-use Rattle.matching.proofs.Members.{member-zero, without-only, without-kept}
+use Rattle.sets.specs.Set.{member, _∈_, Without}
+use Rattle.sets.proofs.Members.{member-zero, without-only, without-kept}
 use Rattle.matching.proofs.settling.port_of.Statement.{statement}
 use Rattle.matching.proofs.settling.port_of.Tie as tie
 

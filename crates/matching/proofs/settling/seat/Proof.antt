@@ -4,10 +4,10 @@ use mathlib.Core.Path.{_≡_}
 use mathlib.Core.Logic.{⊎-elim}
 use native.Mathlib.Omega.{arith}
 use lib.ListN.{getD}
-use Rattle.matching.specs.Set.{_∈_}
+use Rattle.sets.specs.Set.{_∈_}
 use Rattle.matching.specs.Graph.{Edge}
 use Rattle.matching.specs.inner.Settling.{Seating}
-use Rattle.matching.proofs.Members.{and-in, in-and}
+use Rattle.sets.proofs.Members.{and-in, in-and}
 use Rattle.matching.proofs.Seats.{seating-none, seating-idle, seating-more}
 use borrow.Author.Needs.{needs}
 use Rattle.matching.proofs.settling.seat.Statement.{statement}

@@ -7,12 +7,12 @@ use native.Mathlib.Omega.{arith}
 use lib.ListN.{length, getD, set}
 use Rattle.limits.specs.Limits.{mostWidth}
 use Rattle.laws.specs.Sum.{sum}
-use Rattle.matching.specs.Set.{member, _∈_}
+use Rattle.sets.specs.Set.{member, _∈_}
 use Rattle.matching.specs.Graph.{Edge}
 use Rattle.matching.specs.Matching.{unowned}
 use Rattle.matching.specs.inner.Search.{Ready, Searched, Failed}
 use Rattle.matching.specs.inner.Settling.{Settling, Settled}
-use Rattle.matching.proofs.Members.{and-in, in-and, and-none, without-kept}
+use Rattle.sets.proofs.Members.{and-in, in-and, and-none, without-kept}
 use Rattle.matching.proofs.Settles.{Wanted, Trial, own-port, settled-own, candidate-ready, settled-moved}
 use Rattle.matching.proofs.Settles.{restored, hopeful-less, settling-less}
 use borrow.Author.Needs.{needs}

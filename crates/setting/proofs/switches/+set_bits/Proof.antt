@@ -1,4 +1,4 @@
--- `switches::set_bits` meets its contract. One, two and four lines are set at once. Its measure is the width, and each call halves it: the
+-- `switches::set_bits` meets its contract. One, two, four and eight lines are set at once. Its measure is the width, and each call halves it: the
 -- outer switches are set, then each inner network, and `both-set` puts the setting together.
 use Prim.Native.Nat.{ℕ, _/_, _<_}
 use mathlib.Core.Path.{_≡_, refl, sym, ap, _∙_}
@@ -11,10 +11,12 @@ use lib.Seq.{length-take-le}
 use Rattle.network.proofs.Performs.{length-setting}
 use Rattle.network.proofs.Sizes.{Parted, parted, parted-more}
 use Rattle.setting.proofs.Fours.{four-sized}
+use Rattle.setting.proofs.Eights.{eight-sized}
 use Rattle.setting.proofs.Outers.{one-setting, two-setting, inner-inverses, upper-sized, upper-long, lower-sized, both-set}
 use Rattle.setting.proofs.switches.set_bits.Reads as set-bits
 use Rattle.setting.proofs.switches.set_bits.Kinds as set-bits-kinds
 use Rattle.setting.proofs.switches.+set_bits.Lts-set_bits as set-bits-lts
+use Rattle.setting.proofs.switches.set_eight.Reads as set-eight-reads
 use Rattle.setting.proofs.switches.set_four.Reads as set-four-reads
 use Rattle.setting.proofs.switches.set_outer.Reads as set-outer-reads
 use Rattle.setting.proofs.switches.+set_bits.{statement}
@@ -30,7 +32,16 @@ abbrev set-bits-below : ℕ → In 3 set-bits-kinds.ps
 set-bits-below t = and 3 set-bits-kinds.ps (falls 3 set-bits-kinds.ps _<_ μ-set-bits t) set-bits.Pre
 
 abbrev claims : ℕ → set-bits-lts.Claims
-claims t = (set-four-reads.Asked, set-four-reads.Learnt, set-outer-reads.Asked, set-outer-reads.Learnt, set-bits-below t, set-bits.Post)
+claims t = (
+  set-four-reads.Asked,
+  set-four-reads.Learnt,
+  set-eight-reads.Asked,
+  set-eight-reads.Learnt,
+  set-outer-reads.Asked,
+  set-outer-reads.Learnt,
+  set-bits-below t,
+  set-bits.Post,
+)
 
 module _ (t : ℕ) where
   -- the places that the needs cite: the start, past the test for one line, and after each of the three calls for a wider network
@@ -54,7 +65,7 @@ module _ (t : ℕ) where
   start-split c = c .before .before .before .before
 
   abbrev split-outer : OuterSet → Split
-  split-outer c = c .before .before .before .before .before .before .before .before
+  split-outer c = c .before .before .before .before .before .before .before .before .before
 
   abbrev outer-upper : UpperSet → OuterSet
   outer-upper c = c .before .before .before .before .before .before
@@ -70,7 +81,7 @@ module _ (t : ℕ) where
   parts c = parted _ _ _ (start-split c .pre .1 .0 .1) (c .if1 .left)
 
   -- both calls made
-  whole : set-bits-lts.Need-returns-4 (claims t) (set-bits-at t) set-bits.Post
+  whole : set-bits-lts.Need-returns-5 (claims t) (set-bits-at t) set-bits.Post
   whole c =
       let second = c .before .before in
       let first = upper-lower second in
@@ -111,11 +122,25 @@ module _ (t : ℕ) where
       let k = c .before .before in λ d q.
       rw (four-sized q (k .before .before .if3 .taken) .0) (k .set-four .ensures)
 
+  set-eight-requires : set-bits-lts.Need-set-eight-requires (claims t) (set-bits-at t) set-bits.Post
+  set-eight-requires c κs =
+      let s = start-split (c .before .before .before .before) in
+      let eight = c .before .if4 .taken in
+      (eight, eight-sized (s .pre .1 .0 .1) eight .1, s .pre .1 .1 .1)
+
+  same-length-3 : set-bits-lts.Need-same-length-3 (claims t) (set-bits-at t) set-bits.Post
+  same-length-3 c = search needs
+
+  returns-4 : set-bits-lts.Need-returns-4 (claims t) (set-bits-at t) set-bits.Post
+  returns-4 c =
+      let k = c .before .before in λ d q.
+      rw (eight-sized q (k .before .before .if4 .taken) .0) (k .set-eight .ensures)
+
   sub-inner : set-bits-lts.Need-sub-inner (claims t) (set-bits-at t) set-bits.Post
-  sub-inner c = omega (arith, parted-more (parts (c .before .before)))
+  sub-inner c = omega (arith, parted-more (parts (c .before .before .before)))
 
   sub-inner-2 : set-bits-lts.Need-sub-inner-2 (claims t) (set-bits-at t) set-bits.Post
-  sub-inner-2 c = let p = parts (c .before .before) in omega (arith, p .count-all, p .width-all)
+  sub-inner-2 c = let p = parts (c .before .before .before) in omega (arith, p .count-all, p .width-all)
 
   add-middle : set-bits-lts.Need-add-middle (claims t) (set-bits-at t) set-bits.Post
   add-middle c = search needs
@@ -128,7 +153,7 @@ module _ (t : ℕ) where
 
   set-outer-requires : set-bits-lts.Need-set-outer-requires (claims t) (set-bits-at t) set-bits.Post
   set-outer-requires c κs =
-      let k : Split = c .before .before .before .before .before .before .before in
+      let k : Split = c .before .before .before .before .before .before .before .before in
       let s = start-split k in
       (s .pre .1 .0, ((parted-more (parts k), s .pre .1 .1 .0), (s .pre .1 .1 .1, (refl, refl, refl, refl))))
 
@@ -236,8 +261,8 @@ module _ (t : ℕ) where
         ),
       )
 
-  same-length-3 : set-bits-lts.Need-same-length-3 (claims t) (set-bits-at t) set-bits.Post
-  same-length-3 c =
+  same-length-4 : set-bits-lts.Need-same-length-4 (claims t) (set-bits-at t) set-bits.Post
+  same-length-4 c =
       let s = start-outer (outer-upper (upper-lower (c .before .before))) in
       ap length (whole c _ (s .pre .1 .0 .1)) ∙ length-setting _ _ ∙ sym (s .pre .1 .0 .1 .1)
 
@@ -253,6 +278,9 @@ pub +set-bits-spec : {M : Type 1} → statement M
     (set-four-requires t)
     (same-length-2 t)
     (returns-3 t)
+    (set-eight-requires t)
+    (same-length-3 t)
+    (returns-4 t)
     (sub-inner t)
     (sub-inner-2 t)
     (add-middle t)
@@ -275,5 +303,5 @@ pub +set-bits-spec : {M : Type 1} → statement M
     (part-set-bits-start-2 t)
     (part-set-bits-end-2 t)
     (set-bits-requires-2 t)
-    (same-length-3 t)
+    (same-length-4 t)
     (whole t)

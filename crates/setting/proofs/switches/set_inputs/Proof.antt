@@ -1,29 +1,30 @@
 -- `switches::set_inputs` meets its contract: turn j sets input switch j, and picks a line of each half.
 use Prim.Native.Nat.{_*_, _-_, _/_, _≤_}
-use mathlib.Core.Path.{_≡_, refl}
+use mathlib.Core.Path.{_≡_}
 use native.Mathlib.Omega.{arith}
 use borrow.Author.Needs.{needs}
-use lib.ListN.{length, getD}
+use lib.ListN.{length}
+use Rattle.sets.specs.Set.{member}
 use Rattle.setting.specs.inner.Steps.{Divided}
 use Rattle.setting.proofs.Wires.{divided-none, divided-more}
 use Rattle.setting.proofs.switches.set_inputs.Statement.{statement}
 use Rattle.setting.proofs.switches.set_inputs.Tie as tie
 
 abbrev Inv-loop : tie.InvT-loop
-Inv-loop half forward bits₀ upper₀ lower₀ m j₀ bits upper lower j =
-    (j ≤ length forward / 2) × Divided (λ i. getD half (2 * i) 0) 0 j j forward bits₀ bits upper lower
+Inv-loop low forward bits₀ upper₀ lower₀ m j₀ bits upper lower j =
+    (j ≤ length forward / 2) × Divided (λ i. member low (2 * i)) 0 j j forward bits₀ bits upper lower
 
 abbrev μ-loop : tie.MeasureT-loop
-μ-loop half forward bits₀ upper₀ lower₀ m j₀ bits upper lower j = length forward / 2 - j
+μ-loop low forward bits₀ upper₀ lower₀ m j₀ bits upper lower j = length forward / 2 - j
 
 loop-holds : tie.Need-loop-holds Inv-loop μ-loop
 loop-holds c = let s = c .before .before in (omega arith, divided-none (s .pre .2) (s .pre .3))
 
-mul-bit : tie.Need-mul-bit Inv-loop μ-loop
-mul-bit c = search needs
+mul-member-of : tie.Need-mul-member-of Inv-loop μ-loop
+mul-member-of c = search needs
 
-element-copy-out-bit : tie.Need-element-copy-out-bit Inv-loop μ-loop
-element-copy-out-bit c = search needs
+member-of-requires : tie.Need-member-of-requires Inv-loop μ-loop
+member-of-requires c κs = search needs
 
 slice-write-bits : tie.Need-slice-write-bits Inv-loop μ-loop
 slice-write-bits c = let s = c .before .before .before .before .before in omega (arith, s .pre .1, c .before .before .loop .inv .1 .bits .long)
@@ -68,9 +69,11 @@ loop-again : tie.Need-loop-again Inv-loop μ-loop
 loop-again c =
     let s = c .before .before .before .before .before .before .before .before in
     let l = c .before .before .before .before .before .loop in
-    let bit = c .before .before .wide .ensures in (
+    let bit = c .before .before .before .member-of .ensures in
+    let crossed = c .before .before .wide .ensures in (
       omega arith,
-      divided-more (l .inv .1) (omega (arith, s .pre .0)) (omega (arith, s .pre .1)) (omega arith) refl (omega (arith, bit)) (omega (arith, bit)),
+      divided-more (l .inv .1) (omega (arith, s .pre .0)) (omega (arith, s .pre .1)) (omega arith) bit (omega (arith, bit, crossed))
+          (omega (arith, bit, crossed)),
     )
 
 same-length : tie.Need-same-length Inv-loop μ-loop
@@ -89,8 +92,8 @@ set-inputs-spec =
     Inv-loop
     μ-loop
     loop-holds
-    mul-bit
-    element-copy-out-bit
+    mul-member-of
+    member-of-requires
     slice-write-bits
     wide-requires
     mul-upper

@@ -1,21 +1,22 @@
 -- `switches::set_outputs` meets its contract: turn j sets output switch j, and picks a line of each half. The last switch, which
 -- has no bit, stands straight by the requirement, so its even line is the upper half's.
 use Prim.Native.Nat.{ℕ, _*_, _-_, _≤_}
-use mathlib.Core.Path.{_≡_, refl, ap}
+use mathlib.Core.Path.{_≡_, refl, ap, _∙_}
 use native.Mathlib.Omega.{arith}
 use borrow.Author.Needs.{needs}
 use lib.ListN.{length, getD}
+use Rattle.sets.specs.Set.{member}
 use Rattle.setting.specs.inner.Steps.{Divided}
 use Rattle.setting.proofs.Wires.{divided-none, divided-more, divided-last}
 use Rattle.setting.proofs.switches.set_outputs.Statement.{statement}
 use Rattle.setting.proofs.switches.set_outputs.Tie as tie
 
 abbrev Inv-loop : tie.InvT-loop
-Inv-loop half back bits₀ from upper₀ lower₀ last j₀ bits upper lower j =
-    (j ≤ length bits₀ - from) × Divided (λ i. getD half (getD back (2 * i) 0) 0) from j j back bits₀ bits upper lower
+Inv-loop low back bits₀ from upper₀ lower₀ last j₀ bits upper lower j =
+    (j ≤ length bits₀ - from) × Divided (λ i. member low (getD back (2 * i) 0)) from j j back bits₀ bits upper lower
 
 abbrev μ-loop : tie.MeasureT-loop
-μ-loop half back bits₀ from upper₀ lower₀ last j₀ bits upper lower j = length bits₀ - from - j
+μ-loop low back bits₀ from upper₀ lower₀ last j₀ bits upper lower j = length bits₀ - from - j
 
 -- the start of the call, from a turn, and a turn from its end
 abbrev start-turn : tie.At-loop Inv-loop μ-loop → tie.Start Inv-loop μ-loop
@@ -39,8 +40,8 @@ shared-slice-read-wide c = search needs
 wide-requires : tie.Need-wide-requires Inv-loop μ-loop
 wide-requires c κs = search needs
 
-element-copy-out-bit : tie.Need-element-copy-out-bit Inv-loop μ-loop
-element-copy-out-bit c =
+member-of-requires : tie.Need-member-of-requires Inv-loop μ-loop
+member-of-requires c κs =
     let k : tie.At-loop Inv-loop μ-loop = c .before .before .before in
     let s = start-turn k in
     omega (arith, c .wide .ensures, s .pre .lines (2 * (k .loop .j)) (omega (arith, s .pre .room)))
@@ -91,7 +92,7 @@ loop-again : tie.Need-loop-again Inv-loop μ-loop
 loop-again c =
     let k = turn-end c in
     let s = start-turn k in
-    let bit = ap (λ (z : ℕ). getD (s .args .half .now) z 0) (c .before .before .before .before .wide .ensures) in
+    let bit = c .before .before .before .member-of .ensures ∙ ap (λ (z : ℕ). member (s .args .low) z) (c .before .before .before .before .wide .ensures) in
     let crossed = c .before .before .wide2 .ensures in (
       omega arith,
       divided-more (k .loop .inv .1) (omega (arith, s .pre .few, s .pre .room)) (omega arith) refl bit
@@ -141,7 +142,7 @@ set-outputs-spec =
     mul-wide
     shared-slice-read-wide
     wide-requires
-    element-copy-out-bit
+    member-of-requires
     add-bits
     slice-write-bits
     wide-requires-2
