@@ -18,10 +18,8 @@ pub use reader::Taken;
 pub use reader::next_field;
 pub use reader::reader_at;
 pub use reader::take;
-pub use writer::Writer;
 pub use writer::finish;
 pub use writer::write;
-pub use writer::writer_at;
 
 // The most bits of a field that is read: with the at most 7 bits before it in its first byte it lies in eight bytes.
 pub const MOST_FIELD: usize = 57;

@@ -14,7 +14,6 @@ use Rattle.laws.specs.Permutation.{Permutes}
 use Rattle.laws.proofs.Permutations.{permutes-ext}
 use Rattle.bits.specs.Bits.{Bytes}
 use Rattle.bits.specs.inner.Writing.{wholeOf}
-use Rattle.bits.specs.declared.writer.Writer.{Writer}
 use Rattle.bits.proofs.Fields.{length-putField}
 use Rattle.network.specs.Carried.{carried}
 use Rattle.network.proofs.Carried.{carried-below, carried-above, carried-permutes}
@@ -140,8 +139,9 @@ unfolding lineAt
 lines-room n w t l = omega (arith, fileLength-reaches n w, mul-le-mul-right (lineBits n w) l)
 
 -- a writer stores what it holds in a file as long
-pub held-long : {bits before : List ℕ} {x : ℕ} (file : List ℕ) (writer : Writer) → Written bits before (wholeOf file writer) x → length file ≡ length before
-held-long file writer W = sym (length-putField file (8 * writer .first) (writer .held) (writer .window)) ∙ W .long
+pub held-long : {bits before : List ℕ} {x : ℕ} (file : List ℕ) (at window : ℕ) → Written bits before (wholeOf file at window) x
+    → length file ≡ length before
+held-long file at window W = sym (length-putField file (32 * (at / 32)) (at % 32) window) ∙ W .long
 
 -- ---- the whole set
 

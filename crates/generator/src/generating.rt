@@ -130,7 +130,7 @@ fn put_set(
     let mut back = tables::numbered();
     let mut writes = [0u16; MOST_WIDTH];
     let mut switches = [0u8; MOST_SWITCHES];
-    let mut writer = packing::begin(file, shape);
+    let mut held = packing::begin(file, shape);
     let mut t = 0;
     while t < shape.cycles {
         take_line(next, heads, edges, &mut words, shape.width);
@@ -143,9 +143,10 @@ fn put_set(
             &mut back,
             &mut writes,
         );
-        writer = packing::put_line(
+        held = packing::put_line(
             file,
-            writer,
+            shape.start + t * shape.stride,
+            held,
             shape,
             &reads,
             &forward,
@@ -155,7 +156,7 @@ fn put_set(
         );
         t += 1;
     }
-    packing::end(file, writer, shape);
+    packing::end(file, held, shape);
 }
 
 // Writes the set of n words for the order that the images give. The first n words of `next` hold the chains of words.

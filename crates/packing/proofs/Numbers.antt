@@ -1,17 +1,16 @@
 -- Bits that are put as one field. The number that bits write grows by one bit at its low end, as a field does; so to put it is to put its
 -- bits one behind the other.
 use Prim.Native.Nat.{ℕ, zero, suc, _+_, _*_, _/_, _%_, _^_, _<_, _≤_}
-use mathlib.Core.Path.{_≡_, refl, ap, ap₂, _∙_}
+use mathlib.Core.Path.{_≡_, refl, sym, ap, ap₂, _∙_}
 use mathlib.Core.List.{List}
 use native.Mathlib.Nat.{add-suc, add-zero, pow-suc}
 use native.Mathlib.Numerals.{add-one}
 use native.Mathlib.Omega.{arith}
 use lib.ListN.{length, getD}
-use Rattle.bits.specs.Bits.{Bytes, putBit, putField, numberAt}
-use Rattle.bits.specs.inner.Writing.{Open, positionOf, wholeOf}
-use Rattle.bits.specs.declared.writer.Writer.{Writer}
+use Rattle.bits.specs.Bits.{putBit, putField, numberAt}
+use Rattle.bits.specs.inner.Writing.{Open, wholeOf}
 use Rattle.packing.specs.Packing.{putFields}
-use Rattle.packing.proofs.Parts.{Putting, long-written}
+use Rattle.packing.proofs.Parts.{Putting, putting-more}
 
 -- the number that the first m bits write
 pub record Gathered (values : List ℕ) (from m number : ℕ) : Type 0 where
@@ -47,20 +46,12 @@ number-put file at values i (suc m) two =
     ∙ ap (λ (x : ℕ). putBit (putFields file at 1 values (i + m)) x (v % 2)) place)
 
 -- a field that holds m bits more
-pub putting-number : {whole file after values : List ℕ} {current next : Writer} {at i number : ℕ} (m : ℕ) → Putting whole at 1 values i file current
+pub putting-number : {whole file after values : List ℕ} {at i window next number : ℕ} (m : ℕ) → Putting whole at 1 values i file window
     → ((j : ℕ) → j < length values → getD values j 0 < 2) → i + m ≤ length values → number ≡ numberAt values i m
-    → Open next × (positionOf next ≡ positionOf current + m) × (wholeOf after next ≡ putField (wholeOf file current) (positionOf current) m number)
-    → Bytes after → Putting whole at 1 values (i + m) after next
-putting-number {whole} {file} {after} {values} {current} {next} {at} {i} {number} m P two fits e W B = record {
-  opened = W .0;
-  place = omega (arith, W .1, P .place);
-  put =
-      W .2 ∙ ap₂ (λ (z : List ℕ) (x : ℕ). putField z x m number) (P .put) place
-      ∙ ap (λ (v : ℕ). putField (putFields whole at 1 values i) (at + i) m v) e
-      ∙ number-put whole at values i m (λ j l. two (i + j) (omega arith));
-  long = long-written file after current next _ _ _ (W .2) ∙ P .long;
-  known = B;
-}
-  where
-    place : positionOf current ≡ at + i
-    place = omega (arith, P .place)
+    → Open (at + i + m) next × (wholeOf after (at + i + m) next ≡ putField (wholeOf file (at + i) window) (at + i) m number)
+    → Putting whole at 1 values (i + m) after next
+putting-number {whole} {values = values} {at = at} {i} {number = number} m P two fits e W =
+    let place : at + i ≡ at + i * 1 = omega arith in
+    let put : putField (putFields whole at 1 values i) (at + i * 1) m number ≡ putFields whole at 1 values (i + m) =
+    rw (sym place, e) (number-put whole at values i m (λ j l. two (i + j) (omega arith))) in
+    putting-more place P m m number (omega arith) put W

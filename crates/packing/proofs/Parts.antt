@@ -1,15 +1,14 @@
--- Fields that are put one behind the other, by a writer that holds bits back: one more field is one more put, and the length stays.
-use Prim.Native.Nat.{ℕ, suc, _+_, _*_, _-_, _^_, _<_, _≤_}
+-- Fields that are put one behind the other, by a writer that holds bits back: one field more is one put more, and two fields may be put as one.
+use Prim.Native.Nat.{ℕ, _+_, _*_, _-_, _^_, _<_, _≤_}
 use mathlib.Core.Path.{_≡_, refl, sym, ap, ap₂, _∙_}
 use mathlib.Core.List.{List}
-use native.Mathlib.Nat.{add-mul, suc-mul, mul-le-mul-right}
+use native.Mathlib.Nat.{add-mul}
 use native.Mathlib.Numerals.{add-one}
 use native.Mathlib.Omega.{arith}
-use lib.ListN.{length, getD}
-use Rattle.bits.specs.Bits.{Bytes, putField}
-use Rattle.bits.specs.inner.Writing.{Open, positionOf, wholeOf}
-use Rattle.bits.specs.declared.writer.Writer.{Writer}
-use Rattle.bits.proofs.Fields.{length-putField}
+use lib.ListN.{getD}
+use Rattle.bits.specs.Bits.{putField}
+use Rattle.bits.specs.inner.Writing.{Open, wholeOf}
+use Rattle.bits.proofs.Stores.{putField-append}
 use Rattle.tables.specs.Terms.{Dims, cycles, fileLength}
 use Rattle.tables.specs.Format.{lineAt, shapeOf}
 use Rattle.tables.specs.declared.Shape.{Shape}
@@ -25,47 +24,51 @@ pub putFields-more : (file : List ℕ) (at k : ℕ) (values : List ℕ) (m : ℕ
 unfolding putFields
 putFields-more file at k values m = rw add-one
 
--- field m of `count` ends where the last one does, or before
-pub field-within : (m count k : ℕ) → m < count → m * k + k ≤ count * k
-field-within m count k l = omega (arith, suc-mul m k, mul-le-mul-right {m = suc m} {n = count} k l)
-
--- the length of the file stays, whatever a writer holds
-pub long-written : (file after : List ℕ) (before behind : Writer) (at k v : ℕ) → wholeOf after behind ≡ putField (wholeOf file before) at k v
-    → length after ≡ length file
-long-written file after before behind at k v h =
-    sym (length-putField after _ _ _) ∙ ap length h ∙ length-putField (wholeOf file before) _ _ _ ∙ length-putField file _ _ _
+-- the fields of two values behind the first m are one
+pub pair-put : (file : List ℕ) (at k : ℕ) (values : List ℕ) (m : ℕ) → getD values (m + 1) 0 < 2 ^ k
+    → putField (putFields file at k values m) (at + m * k) (2 * k) (getD values m 0 * 2 ^ k + getD values (m + 1) 0)
+    ≡ putFields file at k values (m + 2)
+pair-put file at k values m small =
+    let both : 2 * k ≡ k + k = omega arith in
+    let next : at + m * k + k ≡ at + (m + 1) * k = omega (arith, add-mul m 1 k) in
+    let count : m + 1 + 1 ≡ m + 2 = omega arith in
+    let first = getD values m 0 in
+    let second = getD values (m + 1) 0 in
+    ap (λ (z : ℕ). putField (putFields file at k values m) (at + m * k) z (first * 2 ^ k + second)) both
+    ∙ putField-append (putFields file at k values m) (at + m * k) k k first second small
+    ∙ ap₂ (λ (z : List ℕ) (x : ℕ). putField z x k second) (sym (putFields-more file at k values m)) next
+    ∙ sym (putFields-more file at k values (m + 1))
+    ∙ ap (putFields file at k values) count
 
 -- a file into which the first m values were put, with what the writer holds
-pub record Putting (whole : List ℕ) (at k : ℕ) (values : List ℕ) (m : ℕ) (file : List ℕ) (current : Writer) : Type 0 where
-  pub opened : Open current
-  pub place : positionOf current ≡ at + m * k
-  pub put : wholeOf file current ≡ putFields whole at k values m
-  pub long : length file ≡ length whole
-  pub known : Bytes file
+pub record Putting (whole : List ℕ) (at k : ℕ) (values : List ℕ) (m : ℕ) (file : List ℕ) (window : ℕ) : Type 0 where
+  pub opened : Open (at + m * k) window
+  pub put : wholeOf file (at + m * k) window ≡ putFields whole at k values m
 
-pub putting-none : {file : List ℕ} {current : Writer} (k : ℕ) (values : List ℕ) → Open current → Bytes file
-    → Putting (wholeOf file current) (positionOf current) k values 0 file current
-putting-none {file} {current} k values O B = record {
-  opened = O;
-  place = omega arith;
-  put = sym (putFields-none (wholeOf file current) (positionOf current) k values);
-  long = sym (length-putField file _ _ _);
-  known = B;
-}
+pub putting-none : {file : List ℕ} {at window : ℕ} (k : ℕ) (values : List ℕ) → Open at window → Putting (wholeOf file at window) at k values 0 file window
+putting-none {file} {at} {window} k values O =
+    let e : at + 0 * k ≡ at = omega arith in
+    record { opened = rw e O; put = rw e (sym (putFields-none (wholeOf file at window) at k values)) }
 
--- one turn of a loop that puts the values
-pub putting-more : {whole file after values : List ℕ} {current next : Writer} {at k m : ℕ} → Putting whole at k values m file current
-    → Open next × (positionOf next ≡ positionOf current + k) × (wholeOf after next ≡ putField (wholeOf file current) (positionOf current) k (getD values m 0))
-    → Bytes after → Putting whole at k values (m + 1) after next
-putting-more {whole} {file} {after} {values} {current} {next} {at} {k} {m} P W B = record {
-  opened = W .0;
-  place = omega (arith, W .1, P .place, add-mul m 1 k);
-  put =
-      W .2 ∙ ap₂ (λ (z : List ℕ) (x : ℕ). putField z x k (getD values m 0)) (P .put) (P .place)
-      ∙ sym (putFields-more whole at k values m);
-  long = long-written file after current next _ _ _ (W .2) ∙ P .long;
-  known = B;
-}
+module _ {whole file values : List ℕ} {at k m window place : ℕ} (e : place ≡ at + m * k) (P : Putting whole at k values m file window) where
+  -- where the writer stands
+  pub putting-open : Open place window
+  putting-open = rw e (P .opened)
+
+  pub putting-put : wholeOf file place window ≡ putFields whole at k values m
+  putting-put = rw e (P .put)
+
+  -- one turn of a loop that puts j values more by one field
+  pub putting-more : {after : List ℕ} {next : ℕ} (j width value : ℕ) → width ≡ j * k
+      → putField (putFields whole at k values m) (at + m * k) width value ≡ putFields whole at k values (m + j)
+      → Open (place + width) next × (wholeOf after (place + width) next ≡ putField (wholeOf file place window) place width value)
+      → Putting whole at k values (m + j) after next
+  putting-more j width value f more W =
+      let end : place + width ≡ at + (m + j) * k = omega (arith, e, f, add-mul m j k) in
+      record {
+        opened = rw end at (W .0);
+        put = rw end at (W .1) ∙ ap₂ (λ (z : List ℕ) (x : ℕ). putField z x width value) putting-put e ∙ more;
+      }
 
 -- ---- the filling
 

@@ -74,6 +74,11 @@ pub shape-same : {s : Shape} → Shaped s → s ≡ shapeOf (s .words) (s .width
 unfolding shapeOf
 shape-same S = rw (← S .cycles, ← S .addressing, ← S .lines, ← S .switches, ← S .start, ← S .stride) refl
 
+-- where line t starts
+pub shape-line : {s : Shape} → Shaped s → (t : ℕ) → s .start + t * s .stride ≡ lineAt (s .words) (s .width) t
+unfolding lineAt
+shape-line S t = rw (S .start, S .stride)
+
 -- a shape of n words and width w, read part by part
 module _ {n w : ℕ} {s : Shape} (D : Dims n w) (e : s ≡ shapeOf n w) where
   pub shape-own : Shaped s

@@ -1,18 +1,12 @@
--- What a writer holds back: the number of the first bits of a byte that is not full yet.
-use Prim.Native.Nat.{ℕ, _+_, _*_, _^_, _<_}
+-- What a writer holds back at bit `at`: the number that the at % 32 bits behind the last multiple of 32 write.
+use Prim.Native.Nat.{ℕ, _*_, _/_, _%_, _^_, _<_}
 use mathlib.Core.List.{List}
 use Rattle.bits.specs.Bits.{putField}
-use Rattle.bits.specs.declared.writer.Writer.{Writer}
 
--- It holds fewer bits than a byte has.
-pub record Open (writer : Writer) : Type 0 where
-  pub few : writer .held < 8
-  pub small : writer .window < 2 ^ writer .held
-
--- The bit that comes next.
-abbrev pub positionOf : Writer → ℕ
-positionOf writer = 8 * writer .first + writer .held
+-- It has no more digits than bits are held.
+pub record Open (at window : ℕ) : Type 0 where
+  pub small : window < 2 ^ (at % 32)
 
 -- The bytes with the held bits put.
-abbrev pub wholeOf : List ℕ → Writer → List ℕ
-wholeOf bytes writer = putField bytes (8 * writer .first) (writer .held) (writer .window)
+abbrev pub wholeOf : List ℕ → ℕ → ℕ → List ℕ
+wholeOf bytes at window = putField bytes (32 * (at / 32)) (at % 32) window

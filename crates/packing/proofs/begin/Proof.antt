@@ -1,12 +1,12 @@
 -- `begin` meets its contract: the fields that are put, one behind the other, are the header of the form that n decides.
-use Prim.Native.Nat.{ℕ, _≤_}
-use mathlib.Core.Path.{ap, _∙_}
-use native.Mathlib.Omega.{arith}
 use borrow.Author.Needs.{needs}
+use Prim.Native.Nat.{ℕ, _≤_}
+use mathlib.Core.Path.{_≡_, sym, ap, subst, _∙_}
+use native.Mathlib.Omega.{arith}
 use lib.ListN.{length}
-use Rattle.bits.specs.Bits.{Bytes, putField}
-use Rattle.bits.specs.inner.Writing.{wholeOf}
-use Rattle.tables.specs.Header.{headerBytes}
+use Rattle.bits.specs.Bits.{Bytes}
+use Rattle.bits.specs.inner.Writing.{Open, wholeOf}
+use Rattle.tables.specs.Header.{headerBits, headerBytes}
 use Rattle.tables.proofs.Header.{bytes-long, bytes-short, bytes-few}
 use Rattle.tables.proofs.Dims.{fileLength-header}
 use Rattle.packing.proofs.Putting.{short-put, long-put}
@@ -14,8 +14,8 @@ use Rattle.packing.proofs.begin.Statement.{statement}
 use Rattle.packing.proofs.begin.Tie as tie
 
 -- the start, as each call sees it
-abbrev start : tie.After-struct-known3 → tie.Start
-start c = c .before .before .before .before
+abbrev start : tie.After-struct-known → tie.Start
+start c = c .before .before
 
 abbrev start-long : tie.After-put-front → tie.Start
 start-long c = start (c .before .before .before)
@@ -30,12 +30,6 @@ lent-bytes c = record { byte = λ i. c .slice-known .given i .fits }
 room : (s : tie.Start) → headerBytes (s .args .shape .words) ≤ length (s .args .file .now)
 room s = omega (arith, fileLength-header (s .args .shape .words) (s .args .shape .width), s .pre .1)
 
-cast-words : tie.Need-cast-words
-cast-words c = search needs
-
-cast-width : tie.Need-cast-width
-cast-width c = search needs
-
 put-front-requires : tie.Need-put-front-requires
 put-front-requires c κs =
     let s = start (c .before .before) in
@@ -46,11 +40,7 @@ write-requires c κs =
     let d = c .before .before .before in
     let s = start-long d in (
       (omega arith, omega (arith, s .pre .0 .dims .few)),
-      (
-        d .put-front .ensures .0,
-        omega (arith, d .put-front .ensures .1, room s, bytes-long (d .before .before .if1 .taken), d .put-front .kept .0),
-        record { byte = λ i. c .before .slice-known2 .given i .fits },
-      ),
+      (d .put-front .ensures .0, omega (arith, room s, bytes-long (d .before .before .if1 .taken), d .put-front .kept .0)),
     )
 
 same-length : tie.Need-same-length
@@ -61,14 +51,12 @@ returns c =
     let put : tie.After-write = c .before .before in
     let front : tie.After-put-front = put .before .before .before .before in
     let s = start-long front in
-    let n = s .args .shape .words in
-    let many = front .before .before .if1 .taken in (
-      put .write .ensures .0,
-      omega (arith, put .write .ensures .1, front .put-front .ensures .1, bytes-long many),
-      long-put (s .args .shape .width) many (lent-bytes (front .before .before .before .before .before .before)) (omega (arith, room s, bytes-long many))
-          (front .put-front .ensures .2)
-          (put .write .ensures .2
-          ∙ ap (λ (x : ℕ). putField (wholeOf (front .put-front .last .0) (front .put-front .result)) x 16 n) (front .put-front .ensures .1)),
+    let many = front .before .before .if1 .taken in
+    let end : 40 ≡ headerBits (s .args .shape .words) = omega (arith, bytes-long many) in (
+      subst (λ (x : ℕ). Open x (put .write .result)) end (put .write .ensures .0),
+      long-put (s .args .shape .width) many (lent-bytes (front .before .before .before .before)) (omega (arith, room s, bytes-long many))
+          (front .put-front .ensures .1)
+          (ap (λ (x : ℕ). wholeOf (put .write .last .0) x (put .write .result)) (sym end) ∙ put .write .ensures .1),
     )
 
 put-front-requires-2 : tie.Need-put-front-requires-2
@@ -87,19 +75,17 @@ returns-2 : tie.Need-returns-2
 returns-2 c =
     let front : tie.After-put-front2 = c .before .before in
     let s = start-short front in
-    let few = front .before .before .if1 .left in (
-      front .put-front2 .ensures .0,
-      omega (arith, front .put-front2 .ensures .1, bytes-short few),
-      short-put (s .args .shape .width) few (lent-bytes (front .before .before .before .before .before .before)) (omega (arith, room s, bytes-short few))
-          (front .put-front2 .ensures .2),
+    let few = front .before .before .if1 .left in
+    let end : 24 ≡ headerBits (s .args .shape .words) = omega (arith, bytes-short few) in (
+      subst (λ (x : ℕ). Open x (front .put-front2 .result)) end (front .put-front2 .ensures .0),
+      short-put (s .args .shape .width) few (lent-bytes (front .before .before .before .before)) (omega (arith, room s, bytes-short few))
+          (ap (λ (x : ℕ). wholeOf (front .put-front2 .last .0) x (front .put-front2 .result)) (sym end) ∙ front .put-front2 .ensures .1),
     )
 
 pub begin-spec : {M : Type 1} → statement M
 begin-spec =
     tie.close
     (tie.spec
-    cast-words
-    cast-width
     put-front-requires
     write-requires
     same-length

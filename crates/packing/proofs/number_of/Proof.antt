@@ -18,7 +18,7 @@ loop-holds : tie.Need-loop-holds Inv-loop μ-loop
 loop-holds c = (omega arith, gathered-none _ _)
 
 mul-number : tie.Need-mul-number Inv-loop μ-loop
-mul-number c = let l = c .before .loop in omega (arith, l .inv .1 .small, pow-mono {i = l .i} {j = 15} (omega (arith, c .before .before .pre .0)))
+mul-number c = let l = c .before .loop in omega (arith, l .inv .1 .small, pow-mono {i = l .i} {j = 31} (omega (arith, c .before .before .pre .0)))
 
 add-number : tie.Need-add-number Inv-loop μ-loop
 add-number c = search needs
@@ -33,7 +33,7 @@ add-number-2 : tie.Need-add-number-2 Inv-loop μ-loop
 add-number-2 c =
     let s = c .before .before .before in
     let l = c .before .before .loop in
-    omega (arith, l .inv .1 .small, pow-mono {i = l .i} {j = 15} (omega (arith, s .pre .0)), s .pre .1 (s .args .from + l .i) (omega (arith, s .pre .0)))
+    omega (arith, l .inv .1 .small, pow-mono {i = l .i} {j = 31} (omega (arith, s .pre .0)), s .pre .1 (s .args .from + l .i) (omega (arith, s .pre .0)))
 
 add-i : tie.Need-add-i Inv-loop μ-loop
 add-i c = search needs

@@ -1,11 +1,11 @@
 -- `put_switches` meets its contract: the bits are set in the front of the array, and packed from there.
-use Prim.Native.Nat.{ℕ}
-use mathlib.Core.Path.{_≡_, sym, ap₂, _∙_}
+use Prim.Native.Nat.{ℕ, _+_}
+use mathlib.Core.Path.{_≡_, sym, ap, ap₂, subst, _∙_}
 use mathlib.Core.List.{List}
 use native.Mathlib.Omega.{arith}
 use lib.ListN.{length, take}
 use lib.Seq.{length-take-le}
-use Rattle.bits.specs.inner.Writing.{positionOf, wholeOf}
+use Rattle.bits.specs.inner.Writing.{Open, wholeOf}
 use Rattle.setting.specs.inner.Steps.{Inverses}
 use Rattle.tables.proofs.Opens.{shape-same}
 use Rattle.tables.proofs.Passes.{line-sized}
@@ -35,7 +35,8 @@ fronts-known s = rw (placed-known s .lines) (s .pre .0 .1 .inverses)
 returns : tie.Need-returns
 returns c =
     let s = c .before .before .before .before .before .before in
-    (s .pre .1 .0, omega (arith, c .if1 .taken), none-put _ _ 1 _ (c .if1 .taken), s .pre .1 .2)
+    let end : s .args .at + s .args .shape .switches ≡ s .args .at = omega (arith, c .if1 .taken) in
+    (rw end (s .pre .1 .0), rw end (none-put _ _ 1 _ (c .if1 .taken)), s .pre .0 .2)
 
 slice-aggregate-set-switches : tie.Need-slice-aggregate-set-switches
 slice-aggregate-set-switches c =
@@ -53,7 +54,7 @@ set-switches-requires c κs =
     let P = placed-known s in
     let S = line-sized (s .pre .0 .0 .dims) (shape-same (s .pre .0 .0)) in
     let long = front-long P (s .pre .0 .1) in
-    ((S .0, (long ∙ S .1 .0, S .1 .1)), (omega (arith, P .few, long), P .switches-few, fronts-known s, s .pre .1 .2))
+    ((S .0, (long ∙ S .1 .0, S .1 .1)), (omega (arith, P .few, long), P .switches-few, fronts-known s, s .pre .0 .2))
 
 -- the bits lie in the front of the array
 bits-long : (c : tie.After-set-switches)
@@ -77,7 +78,7 @@ put-bits-requires c κs =
     let P = placed-known s in
     let known = bits-known P (s .pre .0 .1) (d .set-switches .ensures .1) in (
       (omega (arith, P .switches-few, bits-long d), λ i l. bits-two P (s .pre .0 .1) _ known i),
-      (s .pre .1 .0, omega (arith, s .pre .1 .1, bits-long d)),
+      (s .pre .1 .0, omega (arith, s .pre .1 .1, bits-long d), omega (arith, s .pre .1 .2, bits-long d)),
     )
 
 same-length : tie.Need-same-length
@@ -88,14 +89,14 @@ same-length-2 c = search needs
 
 returns-2 : tie.Need-returns-2
 returns-2 c =
-    let d = c .before .before .before .before .before .before .before in
+    let put = c .before .before in
+    let d = put .before .before .before .before .before in
     let s = start d in
-    let put = c .before .before .put-bits .ensures in
-    let whole = wholeOf (s .args .file .now) (s .args .writer) in
+    let a = s .args in
     let known = bits-known (placed-known s) (s .pre .0 .1) (d .set-switches .ensures .1) in (
-      put .0,
-      omega (arith, put .1, bits-long d),
-      put .2 ∙ ap₂ (λ (y : List ℕ) (k : ℕ). putFields whole (positionOf (s .args .writer)) 1 y k) known (bits-long d),
+      subst (λ (k : ℕ). Open (a .at + k) (put .put-bits .result)) (bits-long d) (put .put-bits .ensures .0),
+      ap (λ (k : ℕ). wholeOf (put .put-bits .last .0) (a .at + k) (put .put-bits .result)) (sym (bits-long d)) ∙ put .put-bits .ensures .1
+          ∙ ap₂ (λ (y : List ℕ) (k : ℕ). putFields (wholeOf (a .file .now) (a .at) (a .held)) (a .at) 1 y k) known (bits-long d),
       d .set-switches .ensures .0,
     )
 

@@ -1,123 +1,99 @@
--- `bits::write` meets its contract: what is held and the value behind it are one number, whose full bytes are stored from the first on.
+-- `bits::write` meets its contract: what is held and the value behind it are one number, of which 32 bits are stored once it has them.
 -- Assumes nothing.
-use Prim.Native.Nat.{_+_, _-_, _*_, _%_, _^_}
 use borrow.Author.Needs.{needs}
+use Prim.Native.Nat.{ℕ, _+_, _-_, _*_, _%_, _^_}
 use lib.Pow.{pow-pos}
-use mathlib.Core.Path.{_≡_, refl, sym, _∙_}
+use mathlib.Core.Path.{_≡_, ap, _∙_}
+use mathlib.Core.List.{List}
 use native.Mathlib.Omega.{arith}
-use Rattle.bits.specs.Bits.{putField}
+use Rattle.bits.specs.inner.Writing.{wholeOf}
 use Rattle.bits.proofs.Digits.{one-shl}
-use Rattle.bits.proofs.Fields.{length-putField}
-use Rattle.bits.proofs.Stores.{Storing, storing-more, full-byte, full-inside, joined-lt, joined-few, moved-exact, putField-append}
+use Rattle.bits.proofs.Stores.{joined-few, moved-exact, open-held, whole-held, stored-lt, open-stored, whole-stored}
 use Rattle.bits.proofs.writer.write.Statement.{statement}
 use Rattle.bits.proofs.writer.write.Tie as tie
 
-abbrev Inv-loop : tie.InvT-loop
-Inv-loop bytes₀ width value first₀ held₀ window₀ bytes first held window =
-    Storing (putField bytes₀ (8 * first₀) held₀ window₀) (8 * first₀ + held₀) bytes first held window
-
-abbrev μ-loop : tie.MeasureT-loop
-μ-loop bytes₀ width value first₀ held₀ window₀ bytes first held window = held
-
 -- the shift to the left loses no digit
-exact : (s : tie.Start Inv-loop μ-loop) → s .args .writer .window * 2 ^ s .args .width % 2 ^ 32 ≡ s .args .writer .window * 2 ^ s .args .width
-exact s = moved-exact (s .args .writer .held) (s .args .width) (s .pre .1 .0 .small) (s .pre .1 .0 .few) (s .pre .0 .0) (s .pre .0 .1)
+exact : (s : tie.Start) → s .args .window * 2 ^ s .args .width % 2 ^ 64 ≡ s .args .window * 2 ^ s .args .width
+exact s = moved-exact (s .args .at % 32) (s .args .width) (s .pre .1 .0 .small) (s .pre .0 .1) (omega (arith, s .pre .0 .0))
 
-add-held : tie.Need-add-held Inv-loop μ-loop
+-- nor does that of the one by the bits that stay held
+one-exact : (c : tie.Else1) → let a = c .before .before .args in
+    1 * 2 ^ (a .at % 32 + a .width - 32) % 2 ^ 64 ≡ 2 ^ (a .at % 32 + a .width - 32)
+one-exact c = one-shl 64 _ (omega (arith, c .before .before .pre .0 .0))
+
+add-held : tie.Need-add-held
 add-held c = search needs
 
-cast-window : tie.Need-cast-window Inv-loop μ-loop
-cast-window c = search needs
+shl-next : tie.Need-shl-next
+shl-next c = search needs
 
-shl-window : tie.Need-shl-window Inv-loop μ-loop
-shl-window c = search needs
-
-add-window : tie.Need-add-window Inv-loop μ-loop
-add-window c =
-    let s = c .before .before in
-    let few = joined-few (s .args .writer .held) (s .args .width) (s .pre .1 .0 .small) (s .pre .1 .0 .few) (s .pre .0 .0) (s .pre .0 .1) in
+add-next : tie.Need-add-next
+add-next c =
+    let s = c .before in
+    let few = joined-few (s .args .at % 32) (s .args .width) (s .pre .1 .0 .small) (s .pre .0 .1) (omega (arith, s .pre .0 .0)) in
     rw (exact s) (record { fits = omega (arith, few) })
 
-loop-holds : tie.Need-loop-holds Inv-loop μ-loop
-loop-holds c =
-    let s = c .before .before in
-    let W = s .args .writer in
-    rw (exact s) (record {
-      small = joined-lt (W .held) (s .args .width) (s .pre .1 .0 .small) (s .pre .1 .0 .few) (s .pre .0 .0) (s .pre .0 .1);
-      few = omega (arith, s .pre .1 .0 .few, s .pre .0 .0);
-      place = refl;
-      put = refl;
-      fits = omega (arith, s .pre .1 .1);
-      long = sym (length-putField (s .args .bytes .now) _ _ _);
-      known = s .pre .1 .2;
-    })
-
-cast-bytes : tie.Need-cast-bytes Inv-loop μ-loop
-cast-bytes c = omega (arith, c .before .loop .inv .few)
-
-shr-bytes : tie.Need-shr-bytes Inv-loop μ-loop
-shr-bytes c = omega (arith, c .before .loop .inv .few)
-
-cast-bytes-2 : tie.Need-cast-bytes-2 Inv-loop μ-loop
-cast-bytes-2 c = record { fits = full-byte (c .loop-test .taken) (c .before .loop .inv) }
-
-slice-write-bytes : tie.Need-slice-write-bytes Inv-loop μ-loop
-slice-write-bytes c = full-inside (c .loop-test .taken) (c .before .loop .inv)
-
-cast-window-2 : tie.Need-cast-window-2 Inv-loop μ-loop
-cast-window-2 c = omega (arith, c .before .loop .inv .few)
-
-shl-window-2 : tie.Need-shl-window-2 Inv-loop μ-loop
-shl-window-2 c = omega (arith, c .before .loop .inv .few)
-
-rem-window : tie.Need-rem-window Inv-loop μ-loop
-rem-window c = rw (one-shl 32 (c .before .loop .held - 8) (omega (arith, c .before .loop .inv .few))) (pow-pos (c .before .loop .held - 8))
-
-add-first : tie.Need-add-first Inv-loop μ-loop
-add-first c = let s = c .before .before .before .before in omega (arith, c .before .loop .inv .place, s .pre .1 .1)
-
-loop-less : tie.Need-loop-less Inv-loop μ-loop
-loop-less c = omega arith
-
-loop-again : tie.Need-loop-again Inv-loop μ-loop
-loop-again c =
-    rw (one-shl 32 (c .before .loop .held - 8) (omega (arith, c .before .loop .inv .few)))
-    (storing-more (c .loop-test .taken) (c .before .loop .inv))
-
-same-length : tie.Need-same-length Inv-loop μ-loop
-same-length c = c .before .loop .inv .long ∙ length-putField (c .before .before .before .before .args .bytes .now) _ _ _
-
-returns : tie.Need-returns Inv-loop μ-loop
+returns : tie.Need-returns
 returns c =
-    let s = c .before .before .before .before in
-    let W = s .args .writer in
-    let S = c .before .loop .inv in (
-      record { few = omega arith; small = S .small },
-      omega (arith, S .place),
-      S .put
-          ∙ rw (exact s) (putField-append (s .args .bytes .now) (8 * W .first) (W .held) (s .args .width) (W .window) (s .args .value) (s .pre .0 .1)),
+    let s = c .before .before in
+    let a = s .args in
+    let l = c .if1 .taken in
+    rw (exact s) (
+      open-held (a .width) (s .pre .1 .0) (s .pre .0 .0) (s .pre .0 .1) l,
+      whole-held (a .width) (s .pre .1 .0) (s .pre .0 .0) (s .pre .0 .1) l (a .bytes .now),
+    )
+
+mul-store-four : tie.Need-mul-store-four
+mul-store-four c = search needs
+
+shr-store-four : tie.Need-shr-store-four
+shr-store-four c = search needs
+
+store-four-requires : tie.Need-store-four-requires
+store-four-requires c κs =
+    let e = c .before in
+    let s = e .before .before in
+    rw (exact s) (
+      omega (arith, e .if1 .left, s .pre .1 .1),
+      stored-lt (s .args .width) (s .pre .1 .0) (s .pre .0 .0) (s .pre .0 .1) (e .if1 .left),
+      record { byte = λ i. e .before .slice-known .given i .fits },
+    )
+
+shl-result : tie.Need-shl-result
+shl-result c = search needs
+
+rem-result : tie.Need-rem-result
+rem-result c = rw (one-exact (c .before .before .before .before)) (pow-pos _)
+
+same-length : tie.Need-same-length
+same-length c = search needs
+
+returns-2 : tie.Need-returns-2
+returns-2 c =
+    let stored = c .before .before in
+    let e = stored .before .before in
+    let s = e .before .before in
+    let a = s .args in
+    let l = e .if1 .left in
+    let rest = a .at % 32 + a .width - 32 in
+    rw (one-exact e, exact s) (
+      open-stored (a .width) (s .pre .1 .0) (s .pre .0 .0) (s .pre .0 .1) l,
+      ap (λ (z : List ℕ). wholeOf z (a .at + a .width) ((a .window * 2 ^ a .width + a .value) % 2 ^ rest)) (rw (exact s) at (stored .store-four .ensures))
+          ∙ whole-stored (a .width) (s .pre .1 .0) (s .pre .0 .0) (s .pre .0 .1) l (a .bytes .now),
     )
 
 pub write-spec : {M : Type 1} → statement M
 write-spec =
     tie.close
     (tie.spec
-    Inv-loop
-    μ-loop
     add-held
-    cast-window
-    shl-window
-    add-window
-    loop-holds
-    cast-bytes
-    shr-bytes
-    cast-bytes-2
-    slice-write-bytes
-    cast-window-2
-    shl-window-2
-    rem-window
-    add-first
-    loop-less
-    loop-again
+    shl-next
+    add-next
+    returns
+    mul-store-four
+    shr-store-four
+    store-four-requires
+    shl-result
+    rem-result
     same-length
-    returns)
+    returns-2)

@@ -2,21 +2,21 @@
 -- the read lines so far, and the state of the schedule is that after t lines. The arrays that a line is planned in stay as long as they
 -- are, and straight beside the banks.
 use Prim.Native.Nat.{ℕ, _+_, _*_, _-_, _^_, _<_, _≤_}
-use mathlib.Core.Path.{_≡_, refl, sym, ap, _∙_}
-use mathlib.Core.List.{List}
+use mathlib.Core.Path.{_≡_, refl, sym, ap, subst, _∙_}
 use native.Mathlib.Omega.{arith}
 use borrow.Author.Needs.{needs}
 use lib.ListN.{length}
 use Rattle.limits.specs.Limits.{mostWidth, mostSwitches}
 use Rattle.images.specs.Images.{orderOf}
 use Rattle.bits.specs.Bits.{Bytes}
-use Rattle.bits.specs.inner.Writing.{Open, positionOf, wholeOf}
+use Rattle.bits.specs.inner.Writing.{Open, wholeOf}
 use Rattle.tables.specs.Header.{headerOf, headerBits}
 use Rattle.tables.specs.Terms.{cycles, fileLength}
 use Rattle.tables.specs.Format.{lineAt}
 use Rattle.tables.specs.Generated.{setBits}
 use Rattle.tables.specs.inner.Buffers.{Written}
-use Rattle.tables.proofs.Dims.{cycles-few, lineAt-zero, lineAt-suc}
+use Rattle.tables.proofs.Dims.{cycles-few, lineAt-zero, lineAt-suc, lineAt-few}
+use Rattle.tables.proofs.Opens.{shape-line}
 use Rattle.packing.specs.Packing.{putLine}
 use Rattle.packing.specs.inner.Plans.{Blank}
 use Rattle.packing.proofs.Plans.{blank-numbered}
@@ -27,18 +27,18 @@ use Rattle.generator.proofs.generating.put_set.Statement.{statement}
 use Rattle.generator.proofs.generating.put_set.Tie as tie
 
 abbrev Inv-loop : tie.InvT-loop
-Inv-loop images next heads₀ edges₀ shape file₀ words₀ reads₀ forward₀ back₀ writes₀ switches₀ writer₀ t₀
-    heads edges file words reads forward back writes switches writer t =
+Inv-loop images next heads₀ edges₀ shape file₀ words₀ reads₀ forward₀ back₀ writes₀ switches₀ held₀ t₀
+    heads edges file words reads forward back writes switches held t =
     (t ≤ shape .cycles)
     × ((length words ≡ mostWidth) × Blank (shape .width) reads forward back writes × (length switches ≡ mostSwitches))
-    × (Open writer × (positionOf writer ≡ lineAt (shape .words) (shape .width) t))
+    × Open (lineAt (shape .words) (shape .width) t) held
     × ((lines : ℕ → ℕ → ℕ) × Scheduled (shape .words) (shape .width) (orderOf (length images) images) lines t heads edges
-    × Written (setBits (shape .words) (shape .width) (orderOf (length images) images) lines) (wholeOf file₀ writer₀) (wholeOf file writer)
-    (lineAt (shape .words) (shape .width) t))
+    × Written (setBits (shape .words) (shape .width) (orderOf (length images) images) lines) (wholeOf file₀ (headerBits (shape .words)) held₀)
+    (wholeOf file (lineAt (shape .words) (shape .width) t) held) (lineAt (shape .words) (shape .width) t))
 
 abbrev μ-loop : tie.MeasureT-loop
-μ-loop images next heads₀ edges₀ shape file₀ words₀ reads₀ forward₀ back₀ writes₀ switches₀ writer₀ t₀
-    heads edges file words reads forward back writes switches writer t =
+μ-loop images next heads₀ edges₀ shape file₀ words₀ reads₀ forward₀ back₀ writes₀ switches₀ held₀ t₀
+    heads edges file words reads forward back writes switches held t =
     shape .cycles - t
 
 -- ---- the places
@@ -76,8 +76,14 @@ taken-writes c = c .before .before .before .before .before
 abbrev taken-plan : tie.After-plan-line Inv-loop μ-loop → tie.After-take-line Inv-loop μ-loop
 taken-plan c = taken-writes (c .before)
 
+abbrev plan-placed : tie.After-struct-known2 Inv-loop μ-loop → tie.After-plan-line Inv-loop μ-loop
+plan-placed c = c .before .before
+
+abbrev placed-switches : tie.After-switches Inv-loop μ-loop → tie.After-struct-known2 Inv-loop μ-loop
+placed-switches c = c .before .before .before .before .before .before
+
 abbrev plan-switches : tie.After-switches Inv-loop μ-loop → tie.After-plan-line Inv-loop μ-loop
-plan-switches c = c .before .before .before .before .before .before
+plan-switches c = plan-placed (placed-switches c)
 
 abbrev loop-switches : tie.After-switches Inv-loop μ-loop → tie.At-loop Inv-loop μ-loop
 loop-switches c = loop-taken (taken-plan (plan-switches c))
@@ -99,12 +105,12 @@ lent-bytes c = record { byte = λ i. c .slice-known .given i .fits }
 -- the header, once the set is begun
 headed : (c : tie.After-begin Inv-loop μ-loop)
     → let s = entry c in
-    Written (headerOf (n s) (w s)) (s .args .file .now) (wholeOf (c .begin .last .0) (c .begin .result)) (headerBits (n s))
-headed c = c .begin .ensures .2
+    Written (headerOf (n s) (w s)) (s .args .file .now) (wholeOf (c .begin .last .0) (headerBits (n s)) (c .begin .result)) (headerBits (n s))
+headed c = c .begin .ensures .1
 
 -- the file is as long as it was lent
 file-long : (c : tie.At-loop Inv-loop μ-loop) → length (c .loop .file) ≡ length (start c .args .file .now)
-file-long c = held-long (c .loop .file) (c .loop .writer) (c .loop .inv .3 .2) ∙ headed (begun-loop c) .long
+file-long c = held-long (c .loop .file) _ (c .loop .held) (c .loop .inv .3 .2) ∙ headed (begun-loop c) .long
 
 -- every line starts, and the last one ends, in the lent file
 room : (s : Start) (t : ℕ) → t ≤ cycles (n s) (w s) → lineAt (n s) (w s) t ≤ 8 * length (s .args .file .now)
@@ -126,11 +132,11 @@ loop-holds c =
     let none : ℕ → ℕ → ℕ = λ _ _. 0 in (
       omega arith,
       (refl, blank-numbered (w s) (d .before .before .before .numbered .ensures) (d .before .before .numbered2 .ensures), refl),
-      (d .begin .ensures .0, d .begin .ensures .1 ∙ sym (lineAt-zero (n s) (w s))),
+      rw (lineAt-zero (n s) (w s)) (d .begin .ensures .0),
       (
         none,
         scheduled-start none (s .pre .0 .0 .dims) (s .pre .0 .1) (s .pre .1 .1 .0 .1) (s .pre .1 .1 .1),
-        set-begun (n s) (w s) (p s) none (headed d),
+        rw (lineAt-zero (n s) (w s)) (rw (lineAt-zero (n s) (w s)) at (set-begun (n s) (w s) (p s) none (headed d))),
       ),
     )
 
@@ -174,6 +180,32 @@ plan-line-requires c κs =
       ((λ k l. omega (arith, T .inside k l, s .pre .0 .0 .dims .few)), a .loop .inv .1 .1),
     )
 
+-- line t starts where it is put, far from any overflow
+stands : (s : Start) (t : ℕ) → s .args .shape .start + t * s .args .shape .stride ≡ lineAt (n s) (w s) t
+stands s t = shape-line (s .pre .0 .0) t
+
+ends : (s : Start) (t : ℕ) → s .args .shape .start + t * s .args .shape .stride + s .args .shape .stride ≡ lineAt (n s) (w s) (t + 1)
+ends s t = omega (arith, stands s t, s .pre .0 .0 .stride, lineAt-suc (n s) (w s) t)
+
+ends-few : (c : tie.After-plan-line Inv-loop μ-loop)
+    → let a = loop-taken (taken-plan c) in
+    lineAt (n (start a)) (w (start a)) (a .loop .t + 1) ≤ 2 ^ 26
+ends-few c =
+    let d = taken-plan c in
+    lineAt-few (start (loop-taken d) .pre .0 .0 .dims) _ (omega (arith, due (d .before) .more))
+
+mul-put-line : tie.Need-mul-put-line Inv-loop μ-loop
+mul-put-line c =
+    let q = plan-placed c in
+    let a = loop-taken (taken-plan q) in
+    omega (arith, ends (start a) (a .loop .t), ends-few q)
+
+add-put-line : tie.Need-add-put-line Inv-loop μ-loop
+add-put-line c =
+    let q = plan-placed (c .before) in
+    let a = loop-taken (taken-plan q) in
+    omega (arith, ends (start a) (a .loop .t), ends-few q)
+
 slice-aggregate-put-line : tie.Need-slice-aggregate-put-line Inv-loop μ-loop
 slice-aggregate-put-line c = search needs
 
@@ -196,18 +228,11 @@ put-line-requires c κs =
     let a = loop-taken d in
     let s = start a in
     let t = a .loop .t in (
-      (s .pre .0 .0, plan-ready (s .pre .0 .0 .dims) (s .pre .0 .1) (took d) (q .plan-line .ensures)),
+      (s .pre .0 .0, plan-ready (s .pre .0 .0 .dims) (s .pre .0 .1) (took d) (q .plan-line .ensures), a .loop .inv .1 .2),
       (
-        a .loop .inv .2 .0,
-        omega (
-          arith,
-          a .loop .inv .2 .1,
-          s .pre .0 .0 .stride,
-          lineAt-suc (n s) (w s) t,
-          room s (t + 1) (omega (arith, due (d .before) .more)),
-          file-long a,
-        ),
-        a .loop .inv .1 .2,
+        rw (stands s t) (a .loop .inv .2),
+        omega (arith, ends s t, room s (t + 1) (omega (arith, due (d .before) .more)), file-long a),
+        omega (arith, ends s t, ends-few q),
       ),
     )
 
@@ -230,14 +255,15 @@ loop-again c =
     let T = took d in
     let L = q .plan-line .ensures in
     let put = e .put-line .ensures in
-    let whole : List ℕ = wholeOf (a .loop .file) (a .loop .writer) in
-    let placed = put .2 ∙ ap (λ (x : ℕ). putLine (n s) (w s) whole x (q .plan-line .last .1 .1 .1 .0) (q .plan-line .last .1 .1 .1 .1 .0)
-    (q .plan-line .last .1 .1 .1 .1 .1 .1 .0)) (a .loop .inv .2 .1) in
-    let fits : fileLength (n s) (w s) ≤ length (wholeOf (begun-loop a .begin .last .0) (begun-loop a .begin .result)) =
+    let t = a .loop .t in
+    let placed = ap (λ (x : ℕ). wholeOf (e .put-line .last .0) x (e .put-line .result)) (sym (ends s t)) ∙ put .1
+    ∙ ap (λ (x : ℕ). putLine (n s) (w s) (wholeOf (a .loop .file) x (a .loop .held)) x (q .plan-line .last .1 .1 .1 .0)
+    (q .plan-line .last .1 .1 .1 .1 .0) (q .plan-line .last .1 .1 .1 .1 .1 .1 .0)) (stands s t) in
+    let fits : fileLength (n s) (w s) ≤ length (wholeOf (begun-loop a .begin .last .0) (headerBits (n s)) (begun-loop a .begin .result)) =
     omega (arith, s .pre .1 .0 .1, headed (begun-loop a) .long) in (
       omega (arith, d .before .before .before .before .if1 .taken),
-      (T .long, L .blank, put .3),
-      (put .0, omega (arith, put .1, a .loop .inv .2 .1, s .pre .0 .0 .stride, lineAt-suc (n s) (w s) (a .loop .t))),
+      (T .long, L .blank, put .2),
+      rw (ends s t) at (put .0),
       (_, T .scheduled, rw placed (making-more (s .pre .0 .0 .dims) (s .pre .0 .1) T L (due (d .before) .more) fits (a .loop .inv .3 .2))),
     )
 
@@ -252,7 +278,7 @@ end-requires c κs =
     let a = loop-end c in
     let s = start a in (
       (s .pre .0 .0, omega (arith, s .pre .1 .0 .1, file-long a)),
-      (a .loop .inv .2 .0, a .loop .inv .2 .1 ∙ ap (lineAt (n s) (w s)) (all-put c)),
+      subst (λ (t : ℕ). Open (lineAt (n s) (w s) t) (a .loop .held)) (all-put c) (a .loop .inv .2),
     )
 
 same-length : tie.Need-same-length Inv-loop μ-loop
@@ -263,9 +289,12 @@ returns c =
     let e = c .before .before in
     let a = loop-end (e .before) in
     let s = start a in
+    let whole : wholeOf (a .loop .file) (lineAt (n s) (w s) (a .loop .t)) (a .loop .held)
+    ≡ wholeOf (a .loop .file) (lineAt (n s) (w s) (cycles (n s) (w s))) (a .loop .held) =
+    ap (λ (t : ℕ). wholeOf (a .loop .file) (lineAt (n s) (w s) t) (a .loop .held)) (all-put (e .before)) in
     rw (e .end .ensures)
     (set-made (a .loop .t) (all-put (e .before)) (s .pre .0 .0 .dims) (s .pre .0 .1) (lent-bytes (begun-loop a .before .before .before .before))
-    (s .pre .1 .0 .1) (headed (begun-loop a)) (a .loop .inv .3 .1) (a .loop .inv .3 .2))
+    (s .pre .1 .0 .1) (headed (begun-loop a)) (a .loop .inv .3 .1) (rw whole at (a .loop .inv .3 .2)))
 
 pub put-set-spec : {M : Type 1} → statement M
 put-set-spec =
@@ -279,6 +308,8 @@ put-set-spec =
     loop-holds
     take-line-requires
     plan-line-requires
+    mul-put-line
+    add-put-line
     slice-aggregate-put-line
     slice-aggregate-put-line-2
     slice-aggregate-put-line-3
