@@ -1,10 +1,17 @@
 -- A product with the reciprocal, shifted, is the quotient: the reciprocal times the width exceeds 2 ^ 32 by at most the width, and for numbers below
--- 2 ^ 16 the excess stays below the reciprocal itself.
-use Prim.Native.Nat.{ℕ, _+_, _*_, _/_, _^_, _<_, _≤_}
+-- 2 ^ 16 the excess stays below the reciprocal itself. What a number exceeds the quotient's multiple by is the remainder.
+use Prim.Native.Nat.{ℕ, _+_, _-_, _*_, _/_, _%_, _^_, _<_, _≤_}
 use mathlib.Core.Path.{_≡_, sym, ap, _∙_}
-use native.Mathlib.Nat.{mul-le-mul-left, mul-le-mul-right, mul-comm, mul-assoc, add-mul, one-mul, div-le-self, div-mul-le-self, div-lt-iff-lt-mul, le-div-iff-mul-le}
+use native.Mathlib.Nat.{mul-le-mul-left, mul-le-mul-right, mul-comm, mul-assoc, add-mul, one-mul, div-le-self, div-mul-le-self, div-add-mod', div-lt-iff-lt-mul, le-div-iff-mul-le}
 use native.Mathlib.Omega.{arith}
 use Rattle.division.specs.Reciprocal.{Reciprocal}
+
+-- a quotient's multiple of the width, and the remainder above it
+pub multiple-le : (x w : ℕ) {q : ℕ} → q ≡ x / w → q * w ≤ x
+multiple-le x w e = rw e (div-mul-le-self x w)
+
+pub remainder-is : (x w : ℕ) {q : ℕ} → q ≡ x / w → x - q * w ≡ x % w
+remainder-is x w e = rw e (omega (arith, div-add-mod' x w))
 
 module _ (x w r : ℕ) (R : Reciprocal w r) (short : x < 2 ^ 16) where
   -- the reciprocal times the width

@@ -20,6 +20,7 @@ use images::Checked;
 use limits::MOST_SWITCHES;
 use limits::MOST_WIDTH;
 use limits::MOST_WORDS;
+use limits::NO_WORD;
 use limits::SHORT_WORDS;
 use refusal::Refusal;
 use tables::Limits;
@@ -124,6 +125,7 @@ fn put_set(
     ensures { λ _. ⌜ Made (shape .words) (shape .width) (orderOf (length (now (images .entry))) (now (images .entry)))
         (now (file .entry)) (now (file .exit)) ⌝ }
 {
+    let reciprocal = division::reciprocal(shape.width);
     let mut words = [0u16; MOST_WIDTH];
     let mut reads = [0u16; MOST_WIDTH];
     let mut forward = tables::numbered();
@@ -138,6 +140,7 @@ fn put_set(
             images,
             &words,
             shape.width,
+            reciprocal,
             &mut reads,
             &mut forward,
             &mut back,
@@ -168,7 +171,8 @@ fn make(images: &[u16], n: usize, w: usize, file: &mut [u8], next: &mut [u16]) -
 {
     let shape = tables::shape_of(n, w);
     let mut edges = [0u64; MOST_WIDTH];
-    let mut heads = chain(images, n, w, next, &mut edges);
+    let mut heads = [NO_WORD; HEADS];
+    chain(images, n, w, next, &mut edges, &mut heads);
     put_set(images, next, &mut heads, &mut edges, shape, file);
     let length = tables::file_length(shape);
     Extent { length }

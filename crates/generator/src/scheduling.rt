@@ -3,11 +3,12 @@
 ghost use mathlib.Core.Path.{_≡_};
 ghost use Prim.Native.Nat.{ℕ, _+_, _*_, _%_, _<_, _≤_};
 ghost use lib.ListN.{length, replicate};
-ghost use Rattle.limits.specs.Limits.{mostWidth};
+ghost use Rattle.limits.specs.Limits.{mostWidth, noWord};
 ghost use Rattle.images.specs.Images.{orderOf};
 ghost use Rattle.matching.specs.Graph.{Edge};
 ghost use Rattle.tables.specs.Terms.{Dims};
 ghost use Rattle.generator.specs.inner.Schedule.{headAt, Linked, Drawn, Advanced, Takeable, Takes, Due, Took, headCount};
+use division::quotient;
 use images::image_at;
 use limits::MOST_WIDTH;
 use limits::NO_WORD;
@@ -29,32 +30,34 @@ fn bank_before(bank: usize, w: usize) -> usize
 }
 
 // Chains the words of each bank and port from the lowest up, in the first n words of `next`, joins each bank in the graph to the ports of its
-// words, and gives the lowest word of each bank and port.
+// words, and puts the lowest word of each bank and port into the heads.
 pub fn chain(
     images: &[u16],
     n: usize,
     w: usize,
     next: &mut [u16],
     edges: &mut [u64; MOST_WIDTH],
-) -> [u16; HEADS]
+    heads: &mut [u16; HEADS],
+)
     requires { ⌜ Dims n w × (n ≤ length (now next)) ⌝ }
-    requires { ⌜ now edges ≡ replicate mostWidth 0 ⌝ }
-    ensures { λ r. ⌜ Linked n w (orderOf (length (now (images .entry))) (now (images .entry))) (now (next .entry)) (now (next .exit)) r
-        × Drawn w r (now (edges .exit)) ⌝ }
+    requires { ⌜ (now edges ≡ replicate mostWidth 0) × (now heads ≡ replicate headCount noWord) ⌝ }
+    ensures { λ _. ⌜ Linked n w (orderOf (length (now (images .entry))) (now (images .entry)))
+        (now (next .entry)) (now (next .exit)) (now (heads .exit))
+        × Drawn w (now (heads .exit)) (now (edges .exit)) ⌝ }
 {
-    let mut heads = [NO_WORD; HEADS];
+    let reciprocal = division::reciprocal(w);
     let mut bank = 0;
     let mut i = n;
     while 0 < i {
         i -= 1;
         bank = bank_before(bank, w);
-        let port = image_at(images, i) % w;
+        let image = image_at(images, i);
+        let port = image - quotient(image, reciprocal) * w;
         let place = bank * MOST_WIDTH + port;
         next[i] = heads[place];
         heads[place] = i as u16;
         join(edges, bank, port);
     }
-    heads
 }
 
 // Takes the lowest word that is left of a bank and port. Where it is the last, their edge goes.

@@ -3,6 +3,7 @@
 ghost use mathlib.Core.Path.{_≡_};
 ghost use Prim.Native.Nat.{ℕ, _+_, _*_, _^_, _%_, _<_, _≤_};
 ghost use lib.ListN.{length, getD, take};
+ghost use Rattle.division.specs.Reciprocal.{Reciprocal};
 ghost use Rattle.limits.specs.Limits.{mostWords, mostWidth, mostSwitches};
 ghost use Rattle.laws.specs.Permutation.{Injective};
 ghost use Rattle.images.specs.Images.{orderOf};
@@ -17,6 +18,7 @@ ghost use Rattle.tables.specs.inner.Buffers.{Written};
 ghost use Rattle.bits.specs.Bits.{numberAt};
 ghost use Rattle.packing.specs.Packing.{putFront, putFields, putLine, putFilling};
 ghost use Rattle.packing.specs.inner.Plans.{Blank, Planned, Wired, Ready};
+use division::quotient;
 use images::image_at;
 use limits::MOST_WIDTH;
 use limits::SHORT_WORDS;
@@ -129,13 +131,14 @@ pub fn plan_line(
     images: &[u16],
     words: &[u16; MOST_WIDTH],
     w: usize,
+    reciprocal: usize,
     reads: &mut [u16; MOST_WIDTH],
     forward: &mut [u8; MOST_WIDTH],
     back: &mut [u8; MOST_WIDTH],
     writes: &mut [u16; MOST_WIDTH],
 )
     requires { ⌜ (0 < w) × (w ≤ mostWidth) × (length (now words) ≡ mostWidth) × Injective w (λ k. getD (now words) k 0 % w) ⌝ }
-    requires { ⌜ ((k : ℕ) → k < w → getD (now words) k 0 < mostWords) ⌝ }
+    requires { ⌜ Reciprocal w reciprocal × ((k : ℕ) → k < w → getD (now words) k 0 < mostWords) ⌝ }
     requires { ⌜ Blank w (now reads) (now forward) (now back) (now writes) ⌝ }
     ensures { λ _. ⌜ Planned w (orderOf (length (now (images .entry))) (now (images .entry))) (now (words .entry)) w
         (now (reads .exit)) (now (forward .exit)) (now (back .exit)) (now (writes .exit)) ⌝ }
@@ -143,11 +146,12 @@ pub fn plan_line(
     let mut k = 0;
     while k < w {
         let word = words[k] as usize;
-        let bank = word % w;
-        reads[bank] = (word / w) as u16;
+        let address = quotient(word, reciprocal);
+        let bank = word - address * w;
+        reads[bank] = address as u16;
         forward[bank] = k as u8;
         back[k] = bank as u8;
-        writes[k] = (image_at(images, word) / w) as u16;
+        writes[k] = quotient(image_at(images, word), reciprocal) as u16;
         k += 1;
     }
 }

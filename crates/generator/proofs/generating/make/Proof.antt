@@ -1,6 +1,6 @@
 -- `generating::make` meets its contract: the words are chained, and the set is put.
 use Prim.Native.Nat.{ℕ}
-use mathlib.Core.Path.{_≡_, refl, ap, _∙_}
+use mathlib.Core.Path.{_≡_, ap, _∙_}
 use native.Mathlib.Omega.{arith}
 use borrow.Author.Needs.{needs}
 use Rattle.tables.specs.Format.{shapeOf}
@@ -14,7 +14,7 @@ abbrev start : tie.After-shape-of → tie.Start
 start c = c .before .before .before .before
 
 abbrev shaped : tie.After-chain → tie.After-shape-of
-shaped c = c .before .before .before
+shaped c = c .before .before .before .before
 
 abbrev chained : tie.After-put-set-arg2 → tie.After-chain
 chained c = c .before .before .before .before .before .before
@@ -29,7 +29,7 @@ shape-of-requires : tie.Need-shape-of-requires
 shape-of-requires c κs = search needs
 
 chain-requires : tie.Need-chain-requires
-chain-requires c κs = let s = start (c .before .before) in ((s .pre .0 .0, s .pre .0 .1), refl)
+chain-requires c κs = search needs
 
 put-set-requires : tie.Need-put-set-requires
 put-set-requires c κs =

@@ -27,7 +27,7 @@ use Rattle.generator.proofs.generating.put_set.Statement.{statement}
 use Rattle.generator.proofs.generating.put_set.Tie as tie
 
 abbrev Inv-loop : tie.InvT-loop
-Inv-loop images next heads₀ edges₀ shape file₀ words₀ reads₀ forward₀ back₀ writes₀ switches₀ held₀ t₀
+Inv-loop images next heads₀ edges₀ shape file₀ reciprocal words₀ reads₀ forward₀ back₀ writes₀ switches₀ held₀ t₀
     heads edges file words reads forward back writes switches held t =
     (t ≤ shape .cycles)
     × ((length words ≡ mostWidth) × Blank (shape .width) reads forward back writes × (length switches ≡ mostSwitches))
@@ -37,7 +37,7 @@ Inv-loop images next heads₀ edges₀ shape file₀ words₀ reads₀ forward�
     (wholeOf file (lineAt (shape .words) (shape .width) t) held) (lineAt (shape .words) (shape .width) t))
 
 abbrev μ-loop : tie.MeasureT-loop
-μ-loop images next heads₀ edges₀ shape file₀ words₀ reads₀ forward₀ back₀ writes₀ switches₀ held₀ t₀
+μ-loop images next heads₀ edges₀ shape file₀ reciprocal words₀ reads₀ forward₀ back₀ writes₀ switches₀ held₀ t₀
     heads edges file words reads forward back writes switches held t =
     shape .cycles - t
 
@@ -56,7 +56,10 @@ abbrev p : Start → ℕ → ℕ
 p s = orderOf (length (s .args .images .now)) (s .args .images .now)
 
 abbrev entry : tie.After-begin Inv-loop μ-loop → Start
-entry c = c .before .before .before .before .before .before .before
+entry c = c .before .before .before .before .before .before .before .before
+
+abbrev reciprocal-begun : tie.After-begin Inv-loop μ-loop → tie.After-reciprocal Inv-loop μ-loop
+reciprocal-begun c = c .before .before .before .before
 
 abbrev begun-loop : tie.At-loop Inv-loop μ-loop → tie.After-begin Inv-loop μ-loop
 begun-loop c = c .before .before .before
@@ -116,6 +119,9 @@ file-long c = held-long (c .loop .file) _ (c .loop .held) (c .loop .inv .3 .2) �
 room : (s : Start) (t : ℕ) → t ≤ cycles (n s) (w s) → lineAt (n s) (w s) t ≤ 8 * length (s .args .file .now)
 room s t l = omega (arith, lines-room (n s) (w s) t l, s .pre .1 .0 .1)
 
+reciprocal-requires : tie.Need-reciprocal-requires Inv-loop μ-loop
+reciprocal-requires c κs = search needs
+
 numbered-requires : tie.Need-numbered-requires Inv-loop μ-loop
 numbered-requires c κs = search needs
 
@@ -123,7 +129,7 @@ numbered-requires-2 : tie.Need-numbered-requires-2 Inv-loop μ-loop
 numbered-requires-2 c κs = search needs
 
 begin-requires : tie.Need-begin-requires Inv-loop μ-loop
-begin-requires c κs = let s = c .before .before .before .before .before .before in (s .pre .0 .0, s .pre .1 .0 .1)
+begin-requires c κs = let s = c .before .before .before .before .before .before .before in (s .pre .0 .0, s .pre .1 .0 .1)
 
 loop-holds : tie.Need-loop-holds Inv-loop μ-loop
 loop-holds c =
@@ -177,7 +183,10 @@ plan-line-requires c κs =
     let s = start a in
     let T = took (taken-writes c) in (
       (s .pre .0 .0 .dims .wide, s .pre .0 .0 .dims .narrow, T .long, T .banked .injective),
-      ((λ k l. omega (arith, T .inside k l, s .pre .0 .0 .dims .few)), a .loop .inv .1 .1),
+      (
+        (reciprocal-begun (begun-loop a) .reciprocal .ensures, λ k l. omega (arith, T .inside k l, s .pre .0 .0 .dims .few)),
+        a .loop .inv .1 .1,
+      ),
     )
 
 -- line t starts where it is put, far from any overflow
@@ -257,8 +266,8 @@ loop-again c =
     let put = e .put-line .ensures in
     let t = a .loop .t in
     let placed = ap (λ (x : ℕ). wholeOf (e .put-line .last .0) x (e .put-line .result)) (sym (ends s t)) ∙ put .1
-    ∙ ap (λ (x : ℕ). putLine (n s) (w s) (wholeOf (a .loop .file) x (a .loop .held)) x (q .plan-line .last .1 .1 .1 .0)
-    (q .plan-line .last .1 .1 .1 .1 .0) (q .plan-line .last .1 .1 .1 .1 .1 .1 .0)) (stands s t) in
+    ∙ ap (λ (x : ℕ). putLine (n s) (w s) (wholeOf (a .loop .file) x (a .loop .held)) x (q .plan-line .last .1 .1 .1 .1 .0)
+    (q .plan-line .last .1 .1 .1 .1 .1 .0) (q .plan-line .last .1 .1 .1 .1 .1 .1 .1 .0)) (stands s t) in
     let fits : fileLength (n s) (w s) ≤ length (wholeOf (begun-loop a .begin .last .0) (headerBits (n s)) (begun-loop a .begin .result)) =
     omega (arith, s .pre .1 .0 .1, headed (begun-loop a) .long) in (
       omega (arith, d .before .before .before .before .if1 .taken),
@@ -293,7 +302,7 @@ returns c =
     ≡ wholeOf (a .loop .file) (lineAt (n s) (w s) (cycles (n s) (w s))) (a .loop .held) =
     ap (λ (t : ℕ). wholeOf (a .loop .file) (lineAt (n s) (w s) t) (a .loop .held)) (all-put (e .before)) in
     rw (e .end .ensures)
-    (set-made (a .loop .t) (all-put (e .before)) (s .pre .0 .0 .dims) (s .pre .0 .1) (lent-bytes (begun-loop a .before .before .before .before))
+    (set-made (a .loop .t) (all-put (e .before)) (s .pre .0 .0 .dims) (s .pre .0 .1) (lent-bytes (reciprocal-begun (begun-loop a) .before))
     (s .pre .1 .0 .1) (headed (begun-loop a)) (a .loop .inv .3 .1) (rw whole at (a .loop .inv .3 .2)))
 
 pub put-set-spec : {M : Type 1} → statement M
@@ -302,6 +311,7 @@ put-set-spec =
     (tie.spec
     Inv-loop
     μ-loop
+    reciprocal-requires
     numbered-requires
     numbered-requires-2
     begin-requires
