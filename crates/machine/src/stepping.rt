@@ -3,11 +3,13 @@ ghost use mathlib.Core.Path.{_≡_};
 ghost use mathlib.Core.List.{List};
 ghost use Prim.Native.Nat.{ℕ, _*_, _-_, _<_, _≤_};
 ghost use lib.ListN.{length, getD, set};
+ghost use Rattle.limits.specs.Limits.{mostWidth};
 ghost use Rattle.laws.specs.Choice.{ifLt};
 ghost use Rattle.laws.specs.Tabulate.{overwrite};
-ghost use Rattle.bits.specs.inner.Taking.{WithZeros};
+ghost use Rattle.bits.specs.inner.Taking.{Room as CursorRoom, WithZeros};
 ghost use Rattle.tables.specs.Terms.{cycles};
 ghost use Rattle.tables.specs.Format.{Shaped};
+ghost use Rattle.tables.specs.inner.Lines.{Sends};
 ghost use Rattle.machine.specs.Step.{spot, leaving, entering, movedCrossings, saysOf, stepOutcome, stepOf};
 ghost use Rattle.machine.specs.inner.Ready.{Room, InRange, lineOutcome, testOf, moveOf, readyOf};
 use crate::Advance;
@@ -18,13 +20,16 @@ use crate::rows::aim;
 use crate::rows::fetch;
 use crate::rows::put_words;
 use crate::rows::spot_of;
+use bits::Cursor;
 use limits::MOST_SWITCHES;
 use limits::MOST_WIDTH;
 use refusal::Refusal;
 use tables::Opened;
+use tables::Pass;
 use tables::Shape;
 use tables::address_in;
 use tables::cursor_at;
+use tables::eight_sources;
 use tables::open;
 use tables::sources;
 use tables::spare_used;
@@ -80,6 +85,26 @@ fn test(shape: Shape, clock: Clock, lent: Lengths) -> Tested
     Tested::Passed
 }
 
+// What leaves on each line of the network whose bits come next, as `sources` has it. The array that the general form needs is made where that form is
+// used, as it takes time to clear.
+fn carry(bytes: &[u8], cursor: Cursor, shape: Shape, standing: &mut [u8]) -> Pass
+    requires { ⌜ Shaped shape × (8 ≤ length (now bytes)) × CursorRoom cursor (shape .switches) × (length (now standing) ≡ mostWidth) ⌝ }
+    ensures { λ r. ⌜ Sends shape (now (bytes .entry)) cursor r (now (standing .exit)) ⌝ }
+{
+    if shape.lines == 8 {
+        return eight_sources(bytes, cursor, standing);
+    }
+    let mut setting = [0u8; MOST_SWITCHES];
+    sources(
+        bytes,
+        cursor,
+        shape.lines,
+        shape.switches,
+        &mut setting,
+        standing,
+    )
+}
+
 // The line of a set of any width. Its words are taken from half 1-h of the first memory as their addresses are read, and put in half h of the second
 // once the line has passed all tests.
 fn move_wide(bytes: &[u8], shape: Shape, clock: Clock, first: &[u16], second: &mut [u16]) -> Moved
@@ -91,21 +116,13 @@ fn move_wide(bytes: &[u8], shape: Shape, clock: Clock, first: &[u16], second: &m
     let t = clock.cycle;
     let other = 1 - clock.half;
     let cursor = cursor_at(shape, t);
-    let mut setting = [0u8; MOST_SWITCHES];
     let mut got = [0u16; MOST_WIDTH];
     let mut standing = [0u8; MOST_WIDTH];
     let mut to = [0u16; MOST_WIDTH];
     match fetch(bytes, cursor, shape, other, first, &mut got) {
         Row::Faulty => Moved::Refused(Refusal::ReadAddress(t)),
         Row::Passed(next) => {
-            let carried = sources(
-                bytes,
-                next,
-                shape.lines,
-                shape.switches,
-                &mut setting,
-                &mut standing,
-            );
+            let carried = carry(bytes, next, shape, &mut standing);
             if spare_used(&standing, shape.width, shape.lines) {
                 return Moved::Refused(Refusal::SpareLine(t));
             }

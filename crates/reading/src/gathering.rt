@@ -10,6 +10,7 @@ ghost use Rattle.laws.specs.Tabulate.{overwrite};
 ghost use Rattle.bits.specs.inner.Taking.{Room, WithZeros};
 ghost use Rattle.tables.specs.Terms.{lineBits};
 ghost use Rattle.tables.specs.Format.{Shaped, lineAt};
+ghost use Rattle.tables.specs.inner.Lines.{Sends};
 ghost use Rattle.reading.specs.Reading.{contentsOf, readOutcome, readScan, readLines, readOf};
 ghost use Rattle.reading.specs.declared.Contents.{Contents};
 ghost use Rattle.reading.specs.declared.Reading.the-variants.{Read};
@@ -36,6 +37,7 @@ use tables::Pass;
 use tables::Shape;
 use tables::address_in;
 use tables::cursor_at;
+use tables::eight_sources;
 use tables::open;
 use tables::sources;
 use tables::spare_used;
@@ -121,6 +123,31 @@ fn two_line(
     })
 }
 
+// What leaves on each line of the network whose bits come next, as `sources` has it.
+fn carry(
+    bytes: &[u8],
+    cursor: Cursor,
+    shape: Shape,
+    setting: &mut [u8],
+    standing: &mut [u8],
+) -> Pass
+    requires { ⌜ Shaped shape × (8 ≤ length (now bytes)) × Room cursor (shape .switches)
+        × (length (now setting) ≡ mostSwitches) × (length (now standing) ≡ mostWidth) ⌝ }
+    ensures { λ r. ⌜ Sends shape (now (bytes .entry)) cursor r (now (standing .exit)) ⌝ }
+{
+    if shape.lines == 8 {
+        return eight_sources(bytes, cursor, standing);
+    }
+    sources(
+        bytes,
+        cursor,
+        shape.lines,
+        shape.switches,
+        setting,
+        standing,
+    )
+}
+
 // `gather_line` of a set of any width.
 fn wide_line(
     bytes: &[u8],
@@ -144,7 +171,7 @@ fn wide_line(
     match take_reads(bytes, cursor, shape, places, reads) {
         Row::Faulty => Tested::Refused(Refusal::ReadAddress(t)),
         Row::Passed(next) => {
-            let carried = sources(bytes, next, shape.lines, shape.switches, setting, standing);
+            let carried = carry(bytes, next, shape, setting, standing);
             if spare_used(standing, shape.width, shape.lines) {
                 return Tested::Refused(Refusal::SpareLine(t));
             }

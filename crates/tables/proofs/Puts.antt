@@ -223,7 +223,7 @@ ones-bit (suc zero) l = refl
 ones-bit (suc (suc b)) l = absurd (omega arith)
 
 -- the ones among the digits of a field are those among its bits
-ones-field : (file : List ℕ) (at w : ℕ) → ones (field file at w) ≡ hits w (λ j. bit file (at + j)) 1
+pub ones-field : (file : List ℕ) (at w : ℕ) → ones (field file at w) ≡ hits w (λ j. bit file (at + j)) 1
 unfolding field hits sum ones
 ones-field file at zero = refl
 ones-field file at (suc w) =

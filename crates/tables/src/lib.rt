@@ -1,8 +1,10 @@
 // Table sets: the form of a file, and the lines of a set.
+mod eight;
 mod lines;
 mod opening;
 
 use bits::Cursor;
+pub use eight::eight_sources;
 pub use lines::address_in;
 pub use lines::cursor_at;
 pub use lines::numbered;

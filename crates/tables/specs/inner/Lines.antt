@@ -7,9 +7,15 @@ use lib.Dec.{ltb}
 use lib.ListN.{length, getD}
 use Rattle.limits.specs.Limits.{mostWidth, mostSwitches}
 use Rattle.laws.specs.Any.{any}
+use Rattle.laws.specs.Sum.{hits}
 use Rattle.laws.specs.Tabulate.{tabulate}
 use Rattle.bits.specs.Bits.{digit, bit, field}
+use Rattle.bits.specs.Reading.{onward}
+use Rattle.bits.specs.declared.reader.Cursor.{Cursor}
 use Rattle.network.specs.Network.{leaves}
+use Rattle.network.specs.inner.Sizes.{Sized}
+use Rattle.tables.specs.declared.Pass.{Pass}
+use Rattle.tables.specs.declared.Shape.{Shape}
 
 -- the addresses that stand from bit `at` on, as a list
 abbrev pub rowAt : List ℕ → ℕ → ℕ → List ℕ
@@ -43,6 +49,12 @@ pub record Switches (file : List ℕ) (at count : ℕ) (found : List ℕ) : Type
 pub record Sources (d : ℕ) (file : List ℕ) (at : ℕ) (found : List ℕ) : Type 0 where
   pub long : length found ≡ mostWidth
   pub each : (x : ℕ) → x < 2 ^ d → getD found (leaves d (λ i. bit file (at + i)) x) 0 ≡ x
+
+-- a pass over the switch bits of a line of this shape, which come next: the cursor behind them, the ones among them, and what stands on each line
+abbrev pub Sends : Shape → List ℕ → Cursor → Pass → List ℕ → Type 0
+Sends shape file cursor pass found =
+    (pass .cursor ≡ onward cursor (shape .switches)) × (pass .crossed ≡ hits (shape .switches) (λ i. bit file (cursor .at + i)) 1)
+    × ((d : ℕ) → Sized (shape .lines) (shape .switches) d → Sources d file (cursor .at) found)
 
 -- a line below the width stands on a spare line
 unfoldable pub spareUsed : List ℕ → ℕ → ℕ → Bool

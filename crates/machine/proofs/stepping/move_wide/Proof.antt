@@ -17,7 +17,7 @@ use Rattle.tables.proofs.Dims.{depth-reaches, lines-few}
 use Rattle.tables.proofs.Held.{readsOf, writesOf, zeros-self, read-row, write-row, crossings-held, line-held, spare-held}
 use Rattle.tables.proofs.Lined.{Line}
 use Rattle.tables.proofs.Opens.{shape-same}
-use Rattle.tables.proofs.Passes.{Fitting, line-fits, line-sized}
+use Rattle.tables.proofs.Passes.{Fitting, line-fits}
 use Rattle.machine.specs.inner.Rows.{spotIn, wordIn, RowTaken}
 use Rattle.machine.specs.declared.rows.Row.{Row}
 use Rattle.machine.specs.declared.rows.Row.the-variants.{Passed}
@@ -40,19 +40,19 @@ start c = begun (looked c)
 abbrev found : tie.After-known-told → tie.After-fetch
 found c = c .before .before .before .before
 
-abbrev behind-reads : tie.After-sources → tie.After-known-told
-behind-reads c = c .before .before .before
+abbrev behind-reads : tie.After-carry → tie.After-known-told
+behind-reads c = c .before .before
 
-abbrev sent : tie.After-sources → tie.After-fetch
+abbrev sent : tie.After-carry → tie.After-fetch
 sent c = found (behind-reads c)
 
-abbrev carried : tie.After-spare-used → tie.After-sources
-carried c = c .before .before .before .before
+abbrev carried : tie.After-spare-used → tie.After-carry
+carried c = c .before .before .before
 
 abbrev passed : tie.After-aim → tie.Else1
 passed c = c .before .before .before
 
-abbrev aimed : tie.After-aim → tie.After-sources
+abbrev aimed : tie.After-aim → tie.After-carry
 aimed c = carried (passed c .before)
 
 -- ---- the cursor
@@ -100,21 +100,21 @@ reads-behind : (c : tie.After-known-told) → c .before .next .given .0 .0 ≡ o
 reads-behind c = reads-passed c (zeros-self (start (found c) .pre .1 .0)) .0
 
 -- the network
-switches-behind : (c : tie.After-sources)
+switches-behind : (c : tie.After-carry)
     → let s = start (sent c) in
-    c .sources .result .cursor ≡ onward (looked (sent c) .cursor-at .result) (row s + s .args .shape .switches)
+    c .carry .result .cursor ≡ onward (looked (sent c) .cursor-at .result) (row s + s .args .shape .switches)
 switches-behind c =
     let s = start (sent c) in
-    carried-on (looked (sent c) .cursor-at .result) (row s) (reads-behind (behind-reads c)) (s .args .shape .switches) (c .sources .ensures .0)
+    carried-on (looked (sent c) .cursor-at .result) (row s) (reads-behind (behind-reads c)) (s .args .shape .switches) (c .carry .ensures .0)
 
-line-of : (c : tie.After-sources) {file : List ℕ} → WithZeros file (start (sent c) .args .bytes .now)
+line-of : (c : tie.After-carry) {file : List ℕ} → WithZeros file (start (sent c) .args .bytes .now)
     → let a = start (sent c) .args in
     Line (a .shape .words) (a .shape .width) file (a .clock .cycle) (readsOf (a .shape .words) (a .shape .width) file (a .clock .cycle))
-    (c .sources .last .1 .1 .1 .1 .1 .0) (writesOf (a .shape .words) (a .shape .width) file (a .clock .cycle))
+    (c .carry .last .1 .1 .1 .0) (writesOf (a .shape .words) (a .shape .width) file (a .clock .cycle))
 line-of c Z =
     let s = start (sent c) in
     line-held (s .args .shape) (looked (sent c) .cursor-at .result) (s .args .clock .cycle) (s .pre .0 .0) Z (at-line (looked (sent c)))
-    (reads-behind (behind-reads c)) (c .sources .ensures .2)
+    (reads-behind (behind-reads c)) (c .carry .ensures .2)
 
 carries-told : (c : tie.After-spare-used) {r : Bool} → c .spare-used .result ≡ r
     → {file : List ℕ} → WithZeros file (start (sent (carried c)) .args .bytes .now)
@@ -124,20 +124,20 @@ carries-told c e Z =
     let d = carried c in
     let s = start (sent d) in
     sym (spare-held (s .args .shape) (looked (sent d) .cursor-at .result) (s .args .clock .cycle) (s .pre .0 .0) Z (at-line (looked (sent d)))
-    (reads-behind (behind-reads d)) (d .sources .ensures .2))
+    (reads-behind (behind-reads d)) (d .carry .ensures .2))
     ∙ sym (c .spare-used .ensures) ∙ e
 
 -- the write addresses, once the answer is known
 writes-told : (c : tie.After-aim) (r : Row) → c .aim .result ≡ r → {file : List ℕ} → WithZeros file (start (sent (aimed c)) .args .bytes .now)
     → let a = start (sent (aimed c)) .args in
-    RowTaken r (spotIn (a .shape) (a .clock .half)) (aimed c .sources .result .cursor)
+    RowTaken r (spotIn (a .shape) (a .clock .half)) (aimed c .carry .result .cursor)
     (writesOf (a .shape .words) (a .shape .width) file (a .clock .cycle)) (a .shape) (c .aim .last .1 .1 .1 .1 .0)
 writes-told c r e Z =
     let d = aimed c in
     let s = start (sent d) in
     let a = s .args in
     let Says : Row → List ℕ → Type 0 =
-    λ r x. RowTaken r (spotIn (a .shape) (a .clock .half)) (d .sources .result .cursor) x (a .shape) (c .aim .last .1 .1 .1 .1 .0) in
+    λ r x. RowTaken r (spotIn (a .shape) (a .clock .half)) (d .carry .result .cursor) x (a .shape) (c .aim .last .1 .1 .1 .1 .0) in
     subst₂ Says e (write-row (a .shape) (looked (sent d) .cursor-at .result) (a .clock .cycle) (s .pre .0 .0) Z (at-line (looked (sent d)))
     (switches-behind d)) (c .aim .ensures)
 
@@ -164,37 +164,23 @@ enum-told c = search needs
 enum-known-next : tie.Need-enum-known-next
 enum-known-next c = search needs
 
-slice-aggregate-sources : tie.Need-slice-aggregate-sources
-slice-aggregate-sources c = search needs
+slice-aggregate-carry : tie.Need-slice-aggregate-carry
+slice-aggregate-carry c = search needs
 
-slice-aggregate-sources-2 : tie.Need-slice-aggregate-sources-2
-slice-aggregate-sources-2 c = search needs
-
-sources-requires : tie.Need-sources-requires
-sources-requires c κs =
-    let d = c .before .before in
+carry-requires : tie.Need-carry-requires
+carry-requires c κs =
+    let d = c .before in
     let s = start (found d) in
-    let f = fits-known s in
-    let r = room (looked (found d)) in
-    let at = ap (λ (x : Cursor). x .at) (reads-behind d) in
-    let handed = ap (λ (x : Cursor). x .handed) (reads-behind d) in (
-      line-sized (s .pre .0 .0 .dims) (shape-same (s .pre .0 .0)),
-      (
-        s .pre .1 .0,
-        f .lines,
-        f .switches,
-        record { at = omega (arith, r .at, at, f .all); handed = omega (arith, r .handed, handed, f .all) },
-        refl,
-        refl,
-      ),
-    )
+    let behind = room-behind (looked (found d) .cursor-at .result) (row s) (reads-behind d) {m = s .args .shape .switches} (room (looked (found d)))
+    (omega (arith, fits-known s .all)) in
+    (s .pre .0 .0, s .pre .1 .0, behind, refl)
 
 slice-aggregate-spare-used : tie.Need-slice-aggregate-spare-used
 slice-aggregate-spare-used c = search needs
 
 spare-used-requires : tie.Need-spare-used-requires
 spare-used-requires c κs =
-    let d = c .before .before .before in
+    let d = c .before .before in
     let s = start (sent d) in
     let v = s .pre .0 .0 .lines in
     let wide = depth-reaches (s .args .shape .width) in
@@ -277,7 +263,7 @@ returns-4 c file Z =
     let W = writes-told w _ (told .enum-told3 .given .1) Z .1 in
     let carries = carries-told (passed w .before) (passed w .if1 .left) Z in
     let counted = crossings-held (s .args .shape) (looked (sent d) .cursor-at .result) t (s .pre .0 .0) Z (at-line (looked (sent d)))
-    (reads-behind (behind-reads d)) (d .sources .ensures .1) in
+    (reads-behind (behind-reads d)) (d .carry .ensures .1) in
     line-moves _ _ file _ _ _ (s .pre .0 .2) (reads-in (s .pre .0 .0) file t R) carries (writes-in (s .pre .0 .0) file t W) counted
     (put .put-words .ensures
     ∙ words-put (s .pre .0 .0) file (s .args .clock) (s .pre .0 .1 .half) (s .args .first .now) (line-of d Z) carries R W (s .args .second .now))
@@ -292,9 +278,8 @@ move-wide-spec =
     fetch-requires
     enum-told
     enum-known-next
-    slice-aggregate-sources
-    slice-aggregate-sources-2
-    sources-requires
+    slice-aggregate-carry
+    carry-requires
     slice-aggregate-spare-used
     spare-used-requires
     returns

@@ -31,19 +31,19 @@ start c = c .before .before .before .before .before .before .before .before .bef
 abbrev found : tie.After-known-told → tie.After-take-reads
 found c = c .before .before .before .before .before
 
-abbrev behind-reads : tie.After-sources → tie.After-known-told
+abbrev behind-reads : tie.After-carry → tie.After-known-told
 behind-reads c = c .before .before .before
 
-abbrev carried : tie.After-spare-used → tie.After-sources
+abbrev carried : tie.After-spare-used → tie.After-carry
 carried c = c .before .before .before .before .before .before
 
 abbrev passed : tie.After-take-writes → tie.Else1
 passed c = c .before .before .before .before .before .before
 
-abbrev sent : tie.After-take-writes → tie.After-sources
+abbrev sent : tie.After-take-writes → tie.After-carry
 sent c = carried (passed c .before)
 
-abbrev begun : tie.After-sources → tie.Start
+abbrev begun : tie.After-carry → tie.Start
 begun c = start (found (behind-reads c))
 
 -- ---- the facts
@@ -74,47 +74,47 @@ reads-passed : (c : tie.After-known-told)
 reads-passed c = reads-told (found c) _ (c .before .next .given .1)
 
 -- the cursor behind the switch bits
-switches-behind : (c : tie.After-sources)
+switches-behind : (c : tie.After-carry)
     → let s = begun c in
-    c .sources .result .cursor ≡ onward (s .args .cursor) (row s + s .args .shape .switches)
+    c .carry .result .cursor ≡ onward (s .args .cursor) (row s + s .args .shape .switches)
 switches-behind c =
     let s = begun c in
-    carried-on (s .args .cursor) (row s) (reads-passed (behind-reads c) .0) (s .args .shape .switches) (c .sources .ensures .0)
+    carried-on (s .args .cursor) (row s) (reads-passed (behind-reads c) .0) (s .args .shape .switches) (c .carry .ensures .0)
 
 -- no word leaves on a spare line
 none-spare : (c : tie.Else1)
     → let d = carried (c .before) in
     let s = begun d in
-    false ≡ spareUsed (d .sources .last .1 .1 .1 .1 .1 .0) (s .args .shape .width) (s .args .shape .lines)
+    false ≡ spareUsed (d .carry .last .1 .1 .1 .1 .0) (s .args .shape .width) (s .args .shape .lines)
 none-spare c = sym (c .if1 .left) ∙ c .before .spare-used .ensures
 
-standing-long : (c : tie.After-sources) → length (c .sources .last .1 .1 .1 .1 .1 .0) ≡ mostWidth
+standing-long : (c : tie.After-carry) → length (c .carry .last .1 .1 .1 .1 .0) ≡ mostWidth
 standing-long c =
     let s = begun c in
     let sized = line-sized (s .pre .0 .0 .dims) (shape-same (s .pre .0 .0)) in
-    c .sources .ensures .2 (sized .0) (sized .1) .long
+    c .carry .ensures .2 (sized .0) (sized .1) .long
 
 -- what the search of the write addresses says of a file that the bytes read as, once its answer is known
 writes-told : (c : tie.After-take-writes) (r : Row) → c .take-writes .result ≡ r
     → let d = sent c in
     let a = begun d .args in
-    let behind = d .sources .result .cursor in
+    let behind = d .carry .result .cursor in
     (file : List ℕ) → WithZeros file (a .bytes .now)
-    → RowWritten r behind (readsOf (a .shape .words) (a .shape .width) file (a .t)) (d .sources .last .1 .1 .1 .1 .1 .0)
+    → RowWritten r behind (readsOf (a .shape .words) (a .shape .width) file (a .t)) (d .carry .last .1 .1 .1 .1 .0)
     (rowAt (a .bytes .now) (behind .at) (a .shape .addressing)) (a .shape) (a .places .now) (a .words .now)
     (c .take-writes .last .1 .1 .1 .1 .1 .0) (c .take-writes .last .1 .1 .1 .1 .1 .1 .0)
 writes-told c r e file Z =
     let d = sent c in
     let s = begun d in
     let a = s .args in
-    let behind = d .sources .result .cursor in
+    let behind = d .carry .result .cursor in
     let told = reads-passed (behind-reads d) in
     let Says : Row → Type 0 =
-    λ r. RowWritten r behind (readsOf (a .shape .words) (a .shape .width) file (a .t)) (d .sources .last .1 .1 .1 .1 .1 .0)
+    λ r. RowWritten r behind (readsOf (a .shape .words) (a .shape .width) file (a .t)) (d .carry .last .1 .1 .1 .1 .0)
     (rowAt (a .bytes .now) (behind .at) (a .shape .addressing)) (a .shape) (a .places .now) (a .words .now)
     (c .take-writes .last .1 .1 .1 .1 .1 .0) (c .take-writes .last .1 .1 .1 .1 .1 .1 .0) in
     subst Says e (c .take-writes .ensures (readsOf (a .shape .words) (a .shape .width) file (a .t))
-    (send (a .shape) (a .cursor) (a .t) (s .pre .0 .0) Z (s .pre .1 .1) (told .0) (d .sources .ensures .2) (told .1 .sound) (none-spare (passed c))
+    (send (a .shape) (a .cursor) (a .t) (s .pre .0 .0) Z (s .pre .1 .1) (told .0) (d .carry .ensures .2) (told .1 .sound) (none-spare (passed c))
     (told .1 .kept)))
 
 take-reads-requires : tie.Need-take-reads-requires
@@ -128,13 +128,13 @@ enum-told c = search needs
 enum-known-next : tie.Need-enum-known-next
 enum-known-next c = search needs
 
-sources-requires : tie.Need-sources-requires
-sources-requires c κs =
+carry-requires : tie.Need-carry-requires
+carry-requires c κs =
     let d = c .before .before in
     let s = start (found d) in
-    let f = fits-known s in
-    let room = room-behind (s .args .cursor) (row s) (reads-passed d .0) {m = s .args .shape .switches} (s .pre .0 .1) (omega (arith, f .all)) in
-    (line-sized (s .pre .0 .0 .dims) (shape-same (s .pre .0 .0)), (s .pre .0 .2, f .lines, f .switches, room, s .pre .1 .0 .0, s .pre .1 .0 .2))
+    let behind = room-behind (s .args .cursor) (row s) (reads-passed d .0) {m = s .args .shape .switches} (s .pre .0 .1)
+    (omega (arith, fits-known s .all)) in
+    (s .pre .0 .0, s .pre .0 .2, behind, s .pre .1 .0 .0, s .pre .1 .0 .2)
 
 spare-used-requires : tie.Need-spare-used-requires
 spare-used-requires c κs =
@@ -160,7 +160,7 @@ returns c file Z G k refused next =
     let d = carried (c .before) in
     let s = begun d in
     let told = reads-passed (behind-reads d) in
-    carry-refused (s .args .shape) (s .args .cursor) (s .args .t) (s .pre .0 .0) Z (s .pre .1 .1) G (told .0) (told .1 .sound) (d .sources .ensures .2)
+    carry-refused (s .args .shape) (s .args .cursor) (s .args .t) (s .pre .0 .0) Z (s .pre .1 .1) G (told .0) (told .1 .sound) (d .carry .ensures .2)
     (sym (c .if1 .taken) ∙ c .before .spare-used .ensures) k refused next
 
 take-writes-requires : tie.Need-take-writes-requires
@@ -175,7 +175,7 @@ take-writes-requires c κs =
         (s .pre .1 .0 .3, s .pre .1 .0 .4),
         (
           readsOf (s .args .shape .words) (s .args .shape .width) (s .args .bytes .now) (s .args .t),
-          send (s .args .shape) (s .args .cursor) (s .args .t) (s .pre .0 .0) (zeros-self (s .pre .0 .2)) (s .pre .1 .1) (told .0) (d .sources .ensures .2)
+          send (s .args .shape) (s .args .cursor) (s .args .t) (s .pre .0 .0) (zeros-self (s .pre .0 .2)) (s .pre .1 .1) (told .0) (d .carry .ensures .2)
               (told .1 .sound) (none-spare (c .before .before .before .before .before)) (told .1 .kept),
         ),
       ),
@@ -220,7 +220,7 @@ returns-3 c file Z G k refused next =
     let d = sent w in
     let s = begun d in
     let told = reads-passed (behind-reads d) in
-    write-refused (s .args .shape) (s .args .cursor) (s .args .t) (s .pre .0 .0) Z (s .pre .1 .1) G (told .0) (told .1 .sound) (d .sources .ensures .2)
+    write-refused (s .args .shape) (s .args .cursor) (s .args .t) (s .pre .0 .0) Z (s .pre .1 .1) G (told .0) (told .1 .sound) (d .carry .ensures .2)
     (switches-behind d) (none-spare (passed w)) (writes-told w _ (c .enum-told2 .given .1) file Z) k refused next
 
 same-length-12 : tie.Need-same-length-12
@@ -248,8 +248,8 @@ returns-4 c file Z G =
     let wrote = writes-told w _ (c .before .end .given .1) file Z in
     let end = carried-on (a .cursor) (row s + a .shape .switches) (switches-behind d) (row s) (wrote .0) in (
       end ∙ ap (onward (a .cursor)) (fits-known s .all),
-      crossings-held (a .shape) (a .cursor) (a .t) (s .pre .0 .0) Z (s .pre .1 .1) (told .0) (d .sources .ensures .1),
-      line-passes (a .shape) (a .cursor) (a .t) (s .pre .0 .0) Z (s .pre .1 .1) G (told .0) (told .1 .sound) (d .sources .ensures .2) (switches-behind d)
+      crossings-held (a .shape) (a .cursor) (a .t) (s .pre .0 .0) Z (s .pre .1 .1) (told .0) (d .carry .ensures .1),
+      line-passes (a .shape) (a .cursor) (a .t) (s .pre .0 .0) Z (s .pre .1 .1) G (told .0) (told .1 .sound) (d .carry .ensures .2) (switches-behind d)
           (none-spare (passed w)) (wrote .1),
     )
 
@@ -260,7 +260,7 @@ wide-line-spec =
     take-reads-requires
     enum-told
     enum-known-next
-    sources-requires
+    carry-requires
     spare-used-requires
     same-length
     same-length-2
