@@ -2,7 +2,8 @@
 -- 2 ^ 16 the excess stays below the reciprocal itself. What a number exceeds the quotient's multiple by is the remainder.
 use Prim.Native.Nat.{ℕ, _+_, _-_, _*_, _/_, _%_, _^_, _<_, _≤_}
 use mathlib.Core.Path.{_≡_, sym, ap, _∙_}
-use native.Mathlib.Nat.{mul-le-mul-left, mul-le-mul-right, mul-comm, mul-assoc, add-mul, one-mul, div-le-self, div-mul-le-self, div-add-mod', div-lt-iff-lt-mul, le-div-iff-mul-le}
+use native.Mathlib.Nat.{mul-le-mul-left, mul-le-mul-right, mul-comm, mul-assoc, add-mul, one-mul}
+use native.Mathlib.Nat.{div-le-self, div-mul-le-self, div-add-mod', div-lt-iff-lt-mul, le-div-iff-mul-le}
 use native.Mathlib.Omega.{arith}
 use Rattle.division.specs.Reciprocal.{Reciprocal}
 

@@ -6,5 +6,6 @@ pub mod Drawings
 pub mod Advances
 pub mod Extensions
 pub mod Taking
+mod Unreads
 pub mod Making
 pub mod Checking

@@ -15,6 +15,8 @@ use crate::Extent;
 use crate::Generation;
 use crate::scheduling::HEADS;
 use crate::scheduling::chain;
+use crate::scheduling::drop_read;
+use crate::scheduling::start_places;
 use crate::scheduling::take_line;
 use images::Checked;
 use limits::MOST_SWITCHES;
@@ -22,6 +24,8 @@ use limits::MOST_WIDTH;
 use limits::MOST_WORDS;
 use limits::NO_WORD;
 use limits::SHORT_WORDS;
+use places::Layout;
+use places::PLACES;
 use refusal::Refusal;
 use tables::Limits;
 use tables::Shape;
@@ -125,7 +129,13 @@ fn put_set(
     ensures { λ _. ⌜ Made (shape .words) (shape .width) (orderOf (length (now (images .entry))) (now (images .entry)))
         (now (file .entry)) (now (file .exit)) ⌝ }
 {
-    let reciprocal = division::reciprocal(shape.width);
+    let layout = Layout {
+        width: shape.width,
+        reciprocal: division::reciprocal(shape.width),
+        per: (shape.cycles + 63) / 64,
+    };
+    let mut places = [0u64; PLACES];
+    start_places(&mut places, layout, shape.cycles);
     let mut words = [0u16; MOST_WIDTH];
     let mut reads = [0u16; MOST_WIDTH];
     let mut forward = tables::numbered();
@@ -135,17 +145,18 @@ fn put_set(
     let mut held = packing::begin(file, shape);
     let mut t = 0;
     while t < shape.cycles {
-        take_line(next, heads, edges, &mut words, shape.width);
+        take_line(images, next, heads, edges, &mut words, layout, &places);
         packing::plan_line(
             images,
             &words,
             shape.width,
-            reciprocal,
+            layout.reciprocal,
             &mut reads,
             &mut forward,
             &mut back,
             &mut writes,
         );
+        drop_read(&mut places, layout, &reads);
         held = packing::put_line(
             file,
             shape.start + t * shape.stride,

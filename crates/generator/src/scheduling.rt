@@ -2,10 +2,12 @@
 // crate, so its functions may have a `requires`.
 ghost use mathlib.Core.Path.{_≡_};
 ghost use Prim.Native.Nat.{ℕ, _+_, _*_, _%_, _<_, _≤_};
-ghost use lib.ListN.{length, replicate};
+ghost use lib.ListN.{length, getD, replicate};
 ghost use Rattle.limits.specs.Limits.{mostWidth, noWord};
 ghost use Rattle.images.specs.Images.{orderOf};
 ghost use Rattle.matching.specs.Graph.{Edge};
+ghost use Rattle.matching.specs.inner.Ranking.{many, Ranked};
+ghost use Rattle.places.specs.Places.{placeCount, Place, Laid, Roomy, Filled, Dropped};
 ghost use Rattle.tables.specs.Terms.{Dims};
 ghost use Rattle.generator.specs.inner.Schedule.{headAt, Linked, Drawn, Advanced, Takeable, Takes, Due, Took, headCount};
 use division::quotient;
@@ -14,9 +16,12 @@ use limits::MOST_WIDTH;
 use limits::NO_WORD;
 use matching::FREE;
 use matching::KEYS;
+use matching::MANY;
 use matching::cut;
 use matching::first;
 use matching::join;
+use places::Layout;
+use places::PLACES;
 
 // The heads: one for each bank and port. They are the keys by which the first matching is chosen.
 pub const HEADS: usize = KEYS;
@@ -104,22 +109,50 @@ fn take_words(
     }
 }
 
+// Before the first line all places are left. They are kept only where the matching looks at them.
+pub fn start_places(places: &mut [u64; PLACES], layout: Layout, c: usize)
+    requires { ⌜ (length (now places) ≡ placeCount) × Laid layout × Roomy (layout .per) c ⌝ }
+    ensures { λ _. ⌜ (length (now (places .exit)) ≡ placeCount)
+        × (many < layout .width → Filled (layout .width) (layout .per) c (now (places .exit))) ⌝ }
+{
+    if MANY < layout.width {
+        places::fill(places, layout, c);
+    }
+}
+
+// Behind a line the places that it reads are no longer left.
+pub fn drop_read(places: &mut [u64; PLACES], layout: Layout, reads: &[u16; MOST_WIDTH])
+    requires { ⌜ (length (now places) ≡ placeCount) × Laid layout × (length (now reads) ≡ mostWidth) ⌝ }
+    requires { ⌜ (many < layout .width → (b : ℕ) → b < layout .width
+        → (getD (now reads) b 0 < 64 * layout .per) × Place (now places) (layout .per) b (getD (now reads) b 0)) ⌝ }
+    ensures { λ _. ⌜ (length (now (places .exit)) ≡ placeCount)
+        × (many < layout .width → Dropped (layout .width) (layout .per) (now (reads .entry)) (now (places .entry)) (now (places .exit))) ⌝ }
+{
+    if MANY < layout.width {
+        places::drop_places(places, layout, reads);
+    }
+}
+
 // Takes the next line: the word of port k is put at k. Banks and ports all have one word left for each line left, so no bank is stuck. Bank by
 // bank the line has the lowest word with which it can be finished, and then the later lines can be too.
 pub fn take_line(
+    images: &[u16],
     next: &[u16],
     heads: &mut [u16; HEADS],
     edges: &mut [u64; MOST_WIDTH],
     words: &mut [u16; MOST_WIDTH],
-    w: usize,
+    layout: Layout,
+    places: &[u64; PLACES],
 )
-    requires { ⌜ ((n : ℕ) × (p : ℕ → ℕ) × (reads : ℕ → ℕ → ℕ) × (t : ℕ) × Due n w p reads t (now next) (now heads) (now edges)) ⌝ }
-    requires { ⌜ length (now words) ≡ mostWidth ⌝ }
+    requires { ⌜ ((n : ℕ) × (p : ℕ → ℕ) × (reads : ℕ → ℕ → ℕ) × (t : ℕ)
+        × Due n (layout .width) p reads t (now next) (now heads) (now edges)) ⌝ }
+    requires { ⌜ (length (now words) ≡ mostWidth) × (length (now places) ≡ placeCount) × Laid layout
+        × Ranked (now edges) (now heads) layout (now images) (now places) ⌝ }
     ensures { λ _. ⌜ ((n : ℕ) (p : ℕ → ℕ) (reads : ℕ → ℕ → ℕ) (t : ℕ)
-        → Due n w p reads t (now (next .entry)) (now (heads .entry)) (now (edges .entry))
-        → Took n w p reads t (now (words .exit)) (now (heads .exit)) (now (edges .exit))) ⌝ }
+        → Due n (layout .width) p reads t (now (next .entry)) (now (heads .entry)) (now (edges .entry))
+        → Took n (layout .width) p reads t (now (words .exit)) (now (heads .exit)) (now (edges .exit))) ⌝ }
 {
     let mut owner = [FREE; MOST_WIDTH];
-    first(edges, heads, w, &mut owner);
-    take_words(next, heads, edges, &owner, words, w);
+    first(edges, heads, layout, images, places, &mut owner);
+    take_words(next, heads, edges, &owner, words, layout.width);
 }

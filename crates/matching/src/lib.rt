@@ -1,6 +1,7 @@
 // The first perfect matching between banks and ports, by keys. Where there is none, the answer shows why: a set of banks whose edges lead to
 // fewer ports (Hall). A graph is kept as the set of ports of each bank, a matching as the owner of each port. Only our own crates call
 // these functions, so they may have a `requires`.
+mod ranking;
 mod search;
 mod settling;
 
@@ -19,6 +20,9 @@ pub const FREE: u8 = MOST_WIDTH as u8;
 
 // The keys: one for each bank and port.
 pub const KEYS: usize = MOST_WIDTH * MOST_WIDTH;
+
+// Above how many ports the words that are left are looked at: there the first that will do comes sooner than the last key.
+pub const MANY: usize = 16;
 
 // What a search for a perfect matching answers.
 pub enum Completed {

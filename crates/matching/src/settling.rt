@@ -5,17 +5,23 @@ ghost use Prim.Native.Nat.{ℕ, _≤_, _<_};
 ghost use lib.ListN.{length, getD};
 ghost use Rattle.limits.specs.Limits.{mostWidth};
 ghost use Rattle.sets.specs.Set.{_∈_};
+ghost use Rattle.places.specs.Places.{placeCount, Laid};
 ghost use Rattle.matching.specs.Graph.{Edge};
 ghost use Rattle.matching.specs.Matching.{Completes, unowned};
 ghost use Rattle.matching.specs.First.{keyAt, keyCount, Foremost};
+ghost use Rattle.matching.specs.inner.Ranking.{many, Ranks, Ranked};
 ghost use Rattle.matching.specs.inner.Settling.{Seating, Keeping, Placed, Settling, Settled};
 use crate::Completed;
 use crate::FREE;
 use crate::KEYS;
+use crate::MANY;
+use crate::ranking::scan;
 use crate::search::Search;
 use crate::search::augment;
 use crate::search::complete;
 use limits::MOST_WIDTH;
+use places::Layout;
+use places::PLACES;
 use sets::below;
 use sets::lowest;
 use sets::tail;
@@ -35,7 +41,7 @@ struct Kept {
 }
 
 // The port of least key in a set that is not empty. The key of a bank and port k stands at bank * 64 + k.
-fn least(ports: u64, keys: &[u16; KEYS], bank: usize) -> usize
+fn least_key(ports: u64, keys: &[u16; KEYS], bank: usize) -> usize
     requires { ⌜ (ports ≡ 0 → ⊥) × (bank < mostWidth) × (length (now keys) ≡ keyCount) ⌝ }
     ensures { λ r. ⌜ (r < mostWidth) × (r ∈ ports)
         × ((k : ℕ) → k ∈ ports → keyAt (now (keys .entry)) bank r ≤ keyAt (now (keys .entry)) bank k) ⌝ }
@@ -56,21 +62,44 @@ fn least(ports: u64, keys: &[u16; KEYS], bank: usize) -> usize
     best
 }
 
+// The port of least key in a set of a bank's ports that is not empty. Where many may be in it, the words that are left are looked at and not the keys.
+fn least(
+    ports: u64,
+    keys: &[u16; KEYS],
+    bank: usize,
+    layout: Layout,
+    images: &[u16],
+    places: &[u64; PLACES],
+) -> usize
+    requires { ⌜ (ports ≡ 0 → ⊥) × (bank < layout .width) × Laid layout × (length (now keys) ≡ keyCount) × (length (now places) ≡ placeCount) ⌝ }
+    requires { ⌜ (many < layout .width → Ranks (now keys) bank ports layout (now images) (now places)) ⌝ }
+    ensures { λ r. ⌜ (r < mostWidth) × (r ∈ ports)
+        × ((k : ℕ) → k ∈ ports → keyAt (now (keys .entry)) bank r ≤ keyAt (now (keys .entry)) bank k) ⌝ }
+{
+    if bank + MANY < layout.width {
+        return scan(ports, bank, layout, images, places);
+    }
+    least_key(ports, keys, bank)
+}
+
 // Each bank in turn takes the port of least key among those that are free, its seat; a bank to which none is free stays idle. This is only a
 // start: where a bank is idle, an earlier one may have to give way.
 fn seat(
     edges: &[u64; MOST_WIDTH],
     keys: &[u16; KEYS],
-    width: usize,
+    layout: Layout,
+    images: &[u16],
+    places: &[u64; PLACES],
     owner: &mut [u8; MOST_WIDTH],
     seats: &mut [u8; MOST_WIDTH],
 ) -> Rest
-    requires { ⌜ (width ≤ mostWidth) × (length (now edges) ≡ mostWidth) × (length (now keys) ≡ keyCount)
-        × (length (now owner) ≡ mostWidth) × (length (now seats) ≡ mostWidth) ⌝ }
-    requires { ⌜ ((k : ℕ) → k < width → getD (now owner) k 0 ≡ unowned) ⌝ }
-    ensures { λ r. ⌜ Seating (Edge (now (edges .entry))) width (now (keys .entry)) (now (owner .exit)) (now (seats .exit)) width
-        (r .free) (r .idle) ⌝ }
+    requires { ⌜ Laid layout × (length (now edges) ≡ mostWidth) × (length (now keys) ≡ keyCount) × (length (now places) ≡ placeCount) ⌝ }
+    requires { ⌜ (length (now owner) ≡ mostWidth) × (length (now seats) ≡ mostWidth) × Ranked (now edges) (now keys) layout (now images) (now places) ⌝ }
+    requires { ⌜ ((k : ℕ) → k < layout .width → getD (now owner) k 0 ≡ unowned) ⌝ }
+    ensures { λ r. ⌜ Seating (Edge (now (edges .entry))) (layout .width) (now (keys .entry)) (now (owner .exit)) (now (seats .exit))
+        (layout .width) (r .free) (r .idle) ⌝ }
 {
+    let width = layout.width;
     let mut free = below(width);
     let mut idle: u64 = 0;
     let mut bank = 0;
@@ -79,7 +108,7 @@ fn seat(
         if ports == 0 {
             idle = with(idle, bank, 1);
         } else {
-            let port = least(ports, keys, bank);
+            let port = least(ports, keys, bank, layout, images, places);
             owner[port] = bank as u8;
             seats[bank] = port as u8;
             free = without(free, port);
@@ -132,11 +161,16 @@ fn port_of(owner: &[u8; MOST_WIDTH], ports: u64, bank: u8) -> usize
 fn settle_bank(
     edges: &[u64; MOST_WIDTH],
     keys: &[u16; KEYS],
+    layout: Layout,
+    images: &[u16],
+    places: &[u64; PLACES],
     owner: &mut [u8; MOST_WIDTH],
     vacant: u64,
     bank: usize,
 ) -> usize
     requires { ⌜ (length (now edges) ≡ mostWidth) × (length (now keys) ≡ keyCount) × (length (now owner) ≡ mostWidth) ⌝ }
+    requires { ⌜ Laid layout × (length (now places) ≡ placeCount) × (bank < layout .width) × ((k : ℕ) → k ∈ vacant → k < layout .width)
+        × Ranked (now edges) (now keys) layout (now images) (now places) ⌝ }
     requires { ⌜ ((w : ℕ) × Settling (Edge (now edges)) w (now owner) bank vacant vacant) ⌝ }
     ensures { λ r. ⌜ ((w : ℕ) → Settling (Edge (now (edges .entry))) w (now (owner .entry)) bank vacant vacant
         → Settled (Edge (now (edges .entry))) w (now (keys .entry)) (now (owner .entry)) bank vacant (now (owner .exit)) r) ⌝ }
@@ -145,7 +179,7 @@ fn settle_bank(
     let mut hopeful = vacant;
     loop {
         let ports = edges[bank] & hopeful;
-        let port = least(ports, keys, bank);
+        let port = least(ports, keys, bank, layout, images, places);
         let rival = owner[port];
         if rival == own {
             return port;
@@ -169,19 +203,23 @@ fn settle_bank(
 fn settle(
     edges: &[u64; MOST_WIDTH],
     keys: &[u16; KEYS],
-    width: usize,
+    layout: Layout,
+    images: &[u16],
+    places: &[u64; PLACES],
     owner: &mut [u8; MOST_WIDTH],
     kept: Kept,
 )
-    requires { ⌜ (length (now edges) ≡ mostWidth) × (length (now keys) ≡ keyCount) ⌝ }
-    requires { ⌜ Placed (Edge (now edges)) width (now keys) (now owner) (kept .banks) (kept .vacant) ⌝ }
+    requires { ⌜ (length (now edges) ≡ mostWidth) × (length (now keys) ≡ keyCount) × Laid layout × (length (now places) ≡ placeCount) ⌝ }
+    requires { ⌜ Ranked (now edges) (now keys) layout (now images) (now places) ⌝ }
+    requires { ⌜ Placed (Edge (now edges)) (layout .width) (now keys) (now owner) (kept .banks) (kept .vacant) ⌝ }
     ensures { λ _. ⌜ (length (now (owner .exit)) ≡ mostWidth)
-        × Foremost (Edge (now (edges .entry))) width (now (keys .entry)) (now (owner .exit)) ⌝ }
+        × Foremost (Edge (now (edges .entry))) (layout .width) (now (keys .entry)) (now (owner .exit)) ⌝ }
 {
+    let width = layout.width;
     let mut vacant = kept.vacant;
     let mut bank = kept.banks;
     while bank < width {
-        let port = settle_bank(edges, keys, owner, vacant, bank);
+        let port = settle_bank(edges, keys, layout, images, places, owner, vacant, bank);
         vacant = without(vacant, port);
         bank += 1;
     }
@@ -192,16 +230,20 @@ fn settle(
 pub fn first(
     edges: &[u64; MOST_WIDTH],
     keys: &[u16; KEYS],
-    width: usize,
+    layout: Layout,
+    images: &[u16],
+    places: &[u64; PLACES],
     owner: &mut [u8; MOST_WIDTH],
 ) -> Completed
-    requires { ⌜ (width ≤ mostWidth) × (length (now edges) ≡ mostWidth) × (length (now keys) ≡ keyCount) × (length (now owner) ≡ mostWidth) ⌝ }
-    requires { ⌜ ((k : ℕ) → k < width → getD (now owner) k 0 ≡ unowned) ⌝ }
-    ensures { λ r. ⌜ Completes (Edge (now (edges .entry))) width (Foremost (Edge (now (edges .entry))) width (now (keys .entry)))
-        (now (owner .exit)) r ⌝ }
+    requires { ⌜ Laid layout × (length (now edges) ≡ mostWidth) × (length (now keys) ≡ keyCount) × (length (now places) ≡ placeCount) ⌝ }
+    requires { ⌜ (length (now owner) ≡ mostWidth) × Ranked (now edges) (now keys) layout (now images) (now places) ⌝ }
+    requires { ⌜ ((k : ℕ) → k < layout .width → getD (now owner) k 0 ≡ unowned) ⌝ }
+    ensures { λ r. ⌜ Completes (Edge (now (edges .entry))) (layout .width)
+        (Foremost (Edge (now (edges .entry))) (layout .width) (now (keys .entry))) (now (owner .exit)) r ⌝ }
 {
+    let width = layout.width;
     let mut seats = [0u8; MOST_WIDTH];
-    let rest = seat(edges, keys, width, owner, &mut seats);
+    let rest = seat(edges, keys, layout, images, places, owner, &mut seats);
     if rest.idle == 0 {
         return Completed::Matched;
     }
@@ -209,7 +251,7 @@ pub fn first(
         Completed::Stuck(bank, reached) => Completed::Stuck(bank, reached),
         Completed::Matched => {
             let kept = keep(owner, &seats, width, lowest(rest.idle));
-            settle(edges, keys, width, owner, kept);
+            settle(edges, keys, layout, images, places, owner, kept);
             Completed::Matched
         }
     }

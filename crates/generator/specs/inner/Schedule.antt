@@ -12,6 +12,7 @@ use Rattle.laws.specs.Sum.{sum, is}
 use Rattle.laws.specs.Permutation.{Injective, Permutes, inverse}
 use Rattle.matching.specs.Graph.{Edge, Cut}
 use Rattle.matching.specs.First.{keyCount, keyAt}
+use Rattle.places.specs.Places.{Place}
 use Rattle.tables.specs.Terms.{Dims, cycles}
 use Rattle.tables.specs.Generated.{wordOf, portOf, Schedule}
 use Rattle.tables.specs.First.{Sooner}
@@ -136,3 +137,8 @@ pub record Due (n w : ℕ) (p : ℕ → ℕ) (reads : ℕ → ℕ → ℕ) (t : 
   pub lent : n ≤ length next
   pub more : t < cycles n w
   pub scheduled : Scheduled n w p reads t heads edges
+
+-- of each bank exactly the places are left that no line below t read, whose read addresses are `reads`
+pub record Unread (n w : ℕ) (reads : ℕ → ℕ → ℕ) (t per : ℕ) (places : List ℕ) : Type 0 where
+  pub inside : (b a : ℕ) → b < w → a < 64 * per → Place places per b a → (a < cycles n w) × ((s : ℕ) → s < t → reads s b ≡ a → ⊥)
+  pub every : (b a : ℕ) → b < w → a < cycles n w → ((s : ℕ) → s < t → reads s b ≡ a → ⊥) → Place places per b a

@@ -1,7 +1,7 @@
 -- `generating::put_set` meets its contract: before line t the bits up to it, those that the writer holds among them, are those of the set for
 -- the read lines so far, and the state of the schedule is that after t lines. The arrays that a line is planned in stay as long as they
 -- are, and straight beside the banks.
-use Prim.Native.Nat.{ℕ, _+_, _*_, _-_, _^_, _<_, _≤_}
+use Prim.Native.Nat.{ℕ, _+_, _*_, _-_, _/_, _^_, _<_, _≤_}
 use mathlib.Core.Path.{_≡_, refl, sym, ap, subst, _∙_}
 use native.Mathlib.Omega.{arith}
 use borrow.Author.Needs.{needs}
@@ -20,25 +20,29 @@ use Rattle.tables.proofs.Opens.{shape-line}
 use Rattle.packing.specs.Packing.{putLine}
 use Rattle.packing.specs.inner.Plans.{Blank}
 use Rattle.packing.proofs.Plans.{blank-numbered}
-use Rattle.generator.specs.inner.Schedule.{Scheduled, Due, Took}
+use Rattle.places.specs.Places.{placeCount, Laid, Roomy}
+use Rattle.matching.specs.inner.Ranking.{many}
+use Rattle.generator.specs.inner.Schedule.{Scheduled, Due, Took, Unread}
 use Rattle.generator.proofs.Drawings.{scheduled-start}
+use Rattle.generator.proofs.Unreads.{unread-start, laid-room, ranked-unread, read-planned, read-left, unread-more}
 use Rattle.generator.proofs.Making.{making-more, plan-ready, held-long, lines-room, set-begun, set-made}
 use Rattle.generator.proofs.generating.put_set.Statement.{statement}
 use Rattle.generator.proofs.generating.put_set.Tie as tie
 
 abbrev Inv-loop : tie.InvT-loop
-Inv-loop images next heads₀ edges₀ shape file₀ reciprocal words₀ reads₀ forward₀ back₀ writes₀ switches₀ held₀ t₀
-    heads edges file words reads forward back writes switches held t =
+Inv-loop images next heads₀ edges₀ shape file₀ layout places₀ words₀ reads₀ forward₀ back₀ writes₀ switches₀ held₀ t₀
+    heads edges file places words reads forward back writes switches held t =
     (t ≤ shape .cycles)
     × ((length words ≡ mostWidth) × Blank (shape .width) reads forward back writes × (length switches ≡ mostSwitches))
     × Open (lineAt (shape .words) (shape .width) t) held
     × ((lines : ℕ → ℕ → ℕ) × Scheduled (shape .words) (shape .width) (orderOf (length images) images) lines t heads edges
     × Written (setBits (shape .words) (shape .width) (orderOf (length images) images) lines) (wholeOf file₀ (headerBits (shape .words)) held₀)
-    (wholeOf file (lineAt (shape .words) (shape .width) t) held) (lineAt (shape .words) (shape .width) t))
+    (wholeOf file (lineAt (shape .words) (shape .width) t) held) (lineAt (shape .words) (shape .width) t)
+    × ((length places ≡ placeCount) × (many < shape .width → Unread (shape .words) (shape .width) lines t ((shape .cycles + 63) / 64) places)))
 
 abbrev μ-loop : tie.MeasureT-loop
-μ-loop images next heads₀ edges₀ shape file₀ reciprocal words₀ reads₀ forward₀ back₀ writes₀ switches₀ held₀ t₀
-    heads edges file words reads forward back writes switches held t =
+μ-loop images next heads₀ edges₀ shape file₀ layout places₀ words₀ reads₀ forward₀ back₀ writes₀ switches₀ held₀ t₀
+    heads edges file places words reads forward back writes switches held t =
     shape .cycles - t
 
 -- ---- the places
@@ -56,10 +60,13 @@ abbrev p : Start → ℕ → ℕ
 p s = orderOf (length (s .args .images .now)) (s .args .images .now)
 
 abbrev entry : tie.After-begin Inv-loop μ-loop → Start
-entry c = c .before .before .before .before .before .before .before .before
+entry c = c .before .before .before .before .before .before .before .before .before .before .before
 
 abbrev reciprocal-begun : tie.After-begin Inv-loop μ-loop → tie.After-reciprocal Inv-loop μ-loop
-reciprocal-begun c = c .before .before .before .before
+reciprocal-begun c = c .before .before .before .before .before .before .before
+
+abbrev places-begun : tie.After-begin Inv-loop μ-loop → tie.After-start-places Inv-loop μ-loop
+places-begun c = c .before .before .before .before
 
 abbrev begun-loop : tie.At-loop Inv-loop μ-loop → tie.After-begin Inv-loop μ-loop
 begun-loop c = c .before .before .before
@@ -71,7 +78,7 @@ abbrev loop-words : tie.After-words Inv-loop μ-loop → tie.At-loop Inv-loop μ
 loop-words c = c .before .before .before .before .before
 
 abbrev loop-taken : tie.After-take-line Inv-loop μ-loop → tie.At-loop Inv-loop μ-loop
-loop-taken c = loop-words (c .before)
+loop-taken c = loop-words (c .before .before)
 
 abbrev taken-writes : tie.After-writes Inv-loop μ-loop → tie.After-take-line Inv-loop μ-loop
 taken-writes c = c .before .before .before .before .before
@@ -79,10 +86,16 @@ taken-writes c = c .before .before .before .before .before
 abbrev taken-plan : tie.After-plan-line Inv-loop μ-loop → tie.After-take-line Inv-loop μ-loop
 taken-plan c = taken-writes (c .before)
 
-abbrev plan-placed : tie.After-struct-known2 Inv-loop μ-loop → tie.After-plan-line Inv-loop μ-loop
-plan-placed c = c .before .before
+abbrev dropped-placed : tie.After-struct-known3 Inv-loop μ-loop → tie.After-drop-read Inv-loop μ-loop
+dropped-placed c = c .before .before
 
-abbrev placed-switches : tie.After-switches Inv-loop μ-loop → tie.After-struct-known2 Inv-loop μ-loop
+abbrev plan-dropped : tie.After-drop-read Inv-loop μ-loop → tie.After-plan-line Inv-loop μ-loop
+plan-dropped c = c .before .before .before
+
+abbrev plan-placed : tie.After-struct-known3 Inv-loop μ-loop → tie.After-plan-line Inv-loop μ-loop
+plan-placed c = plan-dropped (dropped-placed c)
+
+abbrev placed-switches : tie.After-switches Inv-loop μ-loop → tie.After-struct-known3 Inv-loop μ-loop
 placed-switches c = c .before .before .before .before .before .before
 
 abbrev plan-switches : tie.After-switches Inv-loop μ-loop → tie.After-plan-line Inv-loop μ-loop
@@ -122,6 +135,27 @@ room s t l = omega (arith, lines-room (n s) (w s) t l, s .pre .1 .0 .1)
 reciprocal-requires : tie.Need-reciprocal-requires Inv-loop μ-loop
 reciprocal-requires c κs = search needs
 
+-- the places of a bank, rounded up to whole numbers
+roomy : (s : Start) → Roomy ((s .args .shape .cycles + 63) / 64) (cycles (n s) (w s))
+roomy s = let e = s .pre .0 .0 .cycles in record { enough = omega (arith, e); tight = omega (arith, e) }
+
+laid-out : (k : tie.After-reciprocal Inv-loop μ-loop)
+    → let s = k .before .before .before .before in
+    Laid (record { width = w s; reciprocal = k .reciprocal .result; per = (s .args .shape .cycles + 63) / 64 })
+laid-out k =
+    let s = k .before .before .before .before in
+    let D = s .pre .0 .0 .dims in
+    record { reciprocal = k .reciprocal .ensures; few = D .narrow; room = laid-room D (roomy s) }
+
+add-t18 : tie.Need-add-t18 Inv-loop μ-loop
+add-t18 c = let S = c .before .before .before .before .before .pre .0 .0 in omega (arith, S .cycles, cycles-few (S .dims))
+
+start-places-requires : tie.Need-start-places-requires Inv-loop μ-loop
+start-places-requires c κs =
+    let k : tie.After-reciprocal Inv-loop μ-loop = c .before .before in
+    let s = k .before .before .before .before in
+    (refl, laid-out k, rw (sym (s .pre .0 .0 .cycles)) at (roomy s))
+
 numbered-requires : tie.Need-numbered-requires Inv-loop μ-loop
 numbered-requires c κs = search needs
 
@@ -129,7 +163,7 @@ numbered-requires-2 : tie.Need-numbered-requires-2 Inv-loop μ-loop
 numbered-requires-2 c κs = search needs
 
 begin-requires : tie.Need-begin-requires Inv-loop μ-loop
-begin-requires c κs = let s = c .before .before .before .before .before .before .before in (s .pre .0 .0, s .pre .1 .0 .1)
+begin-requires c κs = let s = c .before .before .before .before .before .before .before .before .before .before in (s .pre .0 .0, s .pre .1 .0 .1)
 
 loop-holds : tie.Need-loop-holds Inv-loop μ-loop
 loop-holds c =
@@ -143,8 +177,17 @@ loop-holds c =
         none,
         scheduled-start none (s .pre .0 .0 .dims) (s .pre .0 .1) (s .pre .1 .1 .0 .1) (s .pre .1 .1 .1),
         rw (lineAt-zero (n s) (w s)) (rw (lineAt-zero (n s) (w s)) at (set-begun (n s) (w s) (p s) none (headed d))),
+        (places-begun d .start-places .ensures .0, λ m. unread-start none (s .pre .0 .0 .cycles) (places-begun d .start-places .ensures .1 m)),
       ),
     )
+
+-- the layout of the banks
+laid : (a : tie.At-loop Inv-loop μ-loop) → Laid (record {
+  width = w (start a);
+  reciprocal = reciprocal-begun (begun-loop a) .reciprocal .result;
+  per = (start a .args .shape .cycles + 63) / 64;
+})
+laid a = laid-out (reciprocal-begun (begun-loop a))
 
 -- the next line can be taken
 due : (c : tie.After-words Inv-loop μ-loop)
@@ -164,18 +207,25 @@ due c =
     }
 
 take-line-requires : tie.Need-take-line-requires Inv-loop μ-loop
-take-line-requires c κs = ((_, _, _, _, due c), loop-words c .loop .inv .1 .0)
+take-line-requires c κs =
+    let k = c .before in
+    let a = loop-words k in
+    let s = start a in
+    let N = a .loop .inv .3 .3 in (
+      (_, _, _, _, due k),
+      (a .loop .inv .1 .0, N .0, laid a, λ m. ranked-unread (s .args .images .now) (due k) (roomy s) (N .1 m) _ refl refl m),
+    )
 
 -- the line that was taken
 took : (c : tie.After-take-line Inv-loop μ-loop)
     → let a = loop-taken c in
     let s = start a in
-    Took (n s) (w s) (p s) (a .loop .inv .3 .0) (a .loop .t) (c .take-line .last .1 .1 .1 .0) (c .take-line .last .1 .0)
-    (c .take-line .last .1 .1 .0)
+    Took (n s) (w s) (p s) (a .loop .inv .3 .0) (a .loop .t) (c .take-line .last .1 .1 .1 .1 .0) (c .take-line .last .1 .1 .0)
+    (c .take-line .last .1 .1 .1 .0)
 took c =
     let a = loop-taken c in
     let s = start a in
-    c .take-line .ensures (n s) (p s) (a .loop .inv .3 .0) (a .loop .t) (due (c .before))
+    c .take-line .ensures (n s) (p s) (a .loop .inv .3 .0) (a .loop .t) (due (c .before .before))
 
 plan-line-requires : tie.Need-plan-line-requires Inv-loop μ-loop
 plan-line-requires c κs =
@@ -187,6 +237,20 @@ plan-line-requires c κs =
         (reciprocal-begun (begun-loop a) .reciprocal .ensures, λ k l. omega (arith, T .inside k l, s .pre .0 .0 .dims .few)),
         a .loop .inv .1 .1,
       ),
+    )
+
+-- the places that the line reads are left
+drop-read-requires : tie.Need-drop-read-requires Inv-loop μ-loop
+drop-read-requires c κs =
+    let q : tie.After-plan-line Inv-loop μ-loop = c .before .before in
+    let d = taken-plan q in
+    let a = loop-taken d in
+    let s = start a in
+    let T = took d in
+    let L = q .plan-line .ensures in
+    let N = a .loop .inv .3 .3 in (
+      (N .0, laid a, L .blank .reads-long),
+      λ m b l. rw (read-planned T L b l) (read-left T (roomy s) (N .1 m) b l),
     )
 
 -- line t starts where it is put, far from any overflow
@@ -201,7 +265,7 @@ ends-few : (c : tie.After-plan-line Inv-loop μ-loop)
     lineAt (n (start a)) (w (start a)) (a .loop .t + 1) ≤ 2 ^ 26
 ends-few c =
     let d = taken-plan c in
-    lineAt-few (start (loop-taken d) .pre .0 .0 .dims) _ (omega (arith, due (d .before) .more))
+    lineAt-few (start (loop-taken d) .pre .0 .0 .dims) _ (omega (arith, due (d .before .before) .more))
 
 mul-put-line : tie.Need-mul-put-line Inv-loop μ-loop
 mul-put-line c =
@@ -240,7 +304,7 @@ put-line-requires c κs =
       (s .pre .0 .0, plan-ready (s .pre .0 .0 .dims) (s .pre .0 .1) (took d) (q .plan-line .ensures), a .loop .inv .1 .2),
       (
         rw (stands s t) (a .loop .inv .2),
-        omega (arith, ends s t, room s (t + 1) (omega (arith, due (d .before) .more)), file-long a),
+        omega (arith, ends s t, room s (t + 1) (omega (arith, due (d .before .before) .more)), file-long a),
         omega (arith, ends s t, ends-few q),
       ),
     )
@@ -252,7 +316,7 @@ add-t c =
     record { fits = fits }
 
 loop-less : tie.Need-loop-less Inv-loop μ-loop
-loop-less c = omega (arith, taken-plan (plan-switches (put-last c .before)) .before .before .before .before .if1 .taken)
+loop-less c = omega (arith, taken-plan (plan-switches (put-last c .before)) .before .before .before .before .before .if1 .taken)
 
 loop-again : tie.Need-loop-again Inv-loop μ-loop
 loop-again c =
@@ -264,16 +328,22 @@ loop-again c =
     let T = took d in
     let L = q .plan-line .ensures in
     let put = e .put-line .ensures in
+    let dropped = dropped-placed (placed-switches (e .before)) .drop-read .ensures in
     let t = a .loop .t in
     let placed = ap (λ (x : ℕ). wholeOf (e .put-line .last .0) x (e .put-line .result)) (sym (ends s t)) ∙ put .1
     ∙ ap (λ (x : ℕ). putLine (n s) (w s) (wholeOf (a .loop .file) x (a .loop .held)) x (q .plan-line .last .1 .1 .1 .1 .0)
     (q .plan-line .last .1 .1 .1 .1 .1 .0) (q .plan-line .last .1 .1 .1 .1 .1 .1 .1 .0)) (stands s t) in
     let fits : fileLength (n s) (w s) ≤ length (wholeOf (begun-loop a .begin .last .0) (headerBits (n s)) (begun-loop a .begin .result)) =
     omega (arith, s .pre .1 .0 .1, headed (begun-loop a) .long) in (
-      omega (arith, d .before .before .before .before .if1 .taken),
+      omega (arith, d .before .before .before .before .before .if1 .taken),
       (T .long, L .blank, put .2),
       rw (ends s t) at (put .0),
-      (_, T .scheduled, rw placed (making-more (s .pre .0 .0 .dims) (s .pre .0 .1) T L (due (d .before) .more) fits (a .loop .inv .3 .2))),
+      (
+        _,
+        T .scheduled,
+        rw placed (making-more (s .pre .0 .0 .dims) (s .pre .0 .1) T L (due (d .before .before) .more) fits (a .loop .inv .3 .2)),
+        (dropped .0, λ m. unread-more T (roomy s) (a .loop .inv .3 .3 .1 m) (read-planned T L) (dropped .1 m)),
+      ),
     )
 
 -- all lines are put
@@ -312,12 +382,15 @@ put-set-spec =
     Inv-loop
     μ-loop
     reciprocal-requires
+    add-t18
+    start-places-requires
     numbered-requires
     numbered-requires-2
     begin-requires
     loop-holds
     take-line-requires
     plan-line-requires
+    drop-read-requires
     mul-put-line
     add-put-line
     slice-aggregate-put-line

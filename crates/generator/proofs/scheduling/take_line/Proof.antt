@@ -11,18 +11,18 @@ use Rattle.generator.proofs.scheduling.take_line.Tie as tie
 
 first-requires : tie.Need-first-requires
 first-requires c κs =
-    let s = c .before .before .before .before in
+    let s = c .before .before .before .before .before in
     let U = s .pre .0 .4 in (
-      (U .dims .narrow, U .scheduled .edges-long, U .scheduled .headed .long, refl),
-      λ k l. getD-replicate {A = ℕ} mostWidth k unowned 0 (omega (arith, U .dims .narrow)),
+      (s .pre .1 .2, U .scheduled .edges-long, U .scheduled .headed .long, s .pre .1 .1),
+      ((refl, s .pre .1 .3), λ k l. getD-replicate {A = ℕ} mostWidth k unowned 0 (omega (arith, U .dims .narrow))),
     )
 
 take-words-requires : tie.Need-take-words-requires
 take-words-requires c κs =
     let d = c .before .before .before .before in
-    let s = d .before .before .before .before .before in
+    let s = d .before .before .before .before .before .before in
     let U = s .pre .0 .4 in
-    (due-takeable U (due-foremost U (d .first .result) (d .first .ensures)) (d .first .ensures .long), s .pre .1)
+    (due-takeable U (due-foremost U (d .first .result) (d .first .ensures)) (d .first .ensures .long), s .pre .1 .0)
 
 returns : tie.Need-returns
 returns c =

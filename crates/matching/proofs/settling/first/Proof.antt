@@ -18,7 +18,7 @@ seat-requires c κs = search needs
 returns : tie.Need-returns
 returns c =
     let S = c .before .before .seat .ensures in
-    record { long = S .long; outcome = seating-first (c .before .before .before .before .before .pre .0 .0) S (c .if1 .taken) }
+    record { long = S .long; outcome = seating-first (c .before .before .before .before .before .before .pre .0 .0 .few) S (c .if1 .taken) }
 
 complete-requires : tie.Need-complete-requires
 complete-requires c κs = search needs
@@ -41,7 +41,7 @@ abbrev seated : tie.After-complete → tie.After-seat
 seated c = c .before .before .before .before
 
 abbrev start : tie.After-complete → tie.Start
-start c = seated c .before .before .before
+start c = seated c .before .before .before .before
 
 -- ---- the facts
 
@@ -51,7 +51,7 @@ matched {E} {w} {Kind} {owner} C e = subst (λ (x : Completed). Concluded E w Ki
 
 -- the banks before the first idle one are seated
 busy : (c : tie.After-lowest)
-    → (c .lowest .result < start (completed c) .args .width)
+    → (c .lowest .result < start (completed c) .args .layout .width)
     × ((d : ℕ) → d < c .lowest .result → d ∈ seated (completed c) .seat .result .idle → ⊥)
 busy c =
     let S = seated (completed c) .seat .ensures in
@@ -63,7 +63,7 @@ keep-requires c κs =
     let s = start e in
     let S = seated e .seat .ensures in
     let B = busy c in (
-      (s .pre .0 .0, omega (arith, B .0), e .complete .ensures .long, S .seats-long),
+      (s .pre .0 .0 .few, omega (arith, B .0), e .complete .ensures .long, S .seats-long),
       λ b l. S .seats-owned b (omega (arith, B .0)) (B .1 b l) .0,
     )
 
@@ -74,8 +74,11 @@ settle-requires c κs =
     let s = start e in
     let B = busy (k .before) in
     let P = matched (e .complete .ensures) (k .before .before .before .before .enum-told .given .1) in (
-      (s .pre .0 .1, s .pre .0 .2),
-      seating-kept (s .pre .0 .0) (seated e .seat .ensures) (e .complete .ensures .long) P (omega (arith, B .0)) (B .1) (k .keep .ensures),
+      (s .pre .0 .1, s .pre .0 .2, s .pre .0 .0, s .pre .0 .3),
+      (
+        s .pre .1 .0 .1,
+        seating-kept (s .pre .0 .0 .few) (seated e .seat .ensures) (e .complete .ensures .long) P (omega (arith, B .0)) (B .1) (k .keep .ensures),
+      ),
     )
 
 returns-2 : tie.Need-returns-2

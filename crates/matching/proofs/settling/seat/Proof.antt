@@ -14,17 +14,17 @@ use Rattle.matching.proofs.settling.seat.Statement.{statement}
 use Rattle.matching.proofs.settling.seat.Tie as tie
 
 abbrev Inv-loop : tie.InvT-loop
-Inv-loop edges keys width owner₀ seats₀ free₀ idle₀ bank₀ owner seats free idle bank =
-    (bank ≤ width) × Seating (Edge edges) width keys owner seats bank free idle
+Inv-loop edges keys layout images places owner₀ seats₀ width free₀ idle₀ bank₀ owner seats free idle bank =
+    (bank ≤ layout .width) × Seating (Edge edges) (layout .width) keys owner seats bank free idle
 
 abbrev μ-loop : tie.MeasureT-loop
-μ-loop edges keys width owner₀ seats₀ free₀ idle₀ bank₀ owner seats free idle bank = width - bank
+μ-loop edges keys layout images places owner₀ seats₀ width free₀ idle₀ bank₀ owner seats free idle bank = layout .width - bank
 
 below-requires : tie.Need-below-requires Inv-loop μ-loop
 below-requires c κs = search needs
 
 loop-holds : tie.Need-loop-holds Inv-loop μ-loop
-loop-holds c = let p = c .before .pre in (omega arith, seating-none (p .0 .0) (p .0 .3) (p .0 .4) (p .1) (c .below .ensures))
+loop-holds c = let p = c .before .before .pre in (omega arith, seating-none (p .0 .0 .few) (p .1 .0 .0) (p .1 .0 .1) (p .1 .1) (c .below .ensures))
 
 mul-ports : tie.Need-mul-ports Inv-loop μ-loop
 mul-ports c = search needs
@@ -36,7 +36,15 @@ with-requires : tie.Need-with-requires Inv-loop μ-loop
 with-requires c κs = search needs
 
 least-requires : tie.Need-least-requires Inv-loop μ-loop
-least-requires c κs = search needs
+least-requires c κs =
+    let s = c .before .before .before .before .before .before in
+    let l = c .before .before .before .loop in
+    let below = c .before .before .loop-test .taken in (
+      (c .if1 .left, below, s .pre .0 .0, s .pre .0 .2, s .pre .0 .3),
+      λ m. s .pre .1 .0 .2 m (l .bank) _ below (λ k h.
+          let both = and-in (getD (s .args .edges .now) (l .bank) 0) (l .free) k h in
+          (l .inv .1 .vacant .inside k (both .1) .0, both .0)),
+    )
 
 cast-owner : tie.Need-cast-owner Inv-loop μ-loop
 cast-owner c = search needs
@@ -53,10 +61,10 @@ element-write-seats c = search needs
 -- the port is free, and the bank has an edge to it
 free-port : (c : tie.After-least Inv-loop μ-loop)
     → let l = c .before .before .before .before .loop in
-    Edge (c .before .before .before .before .before .before .args .edges .now) (l .bank) (c .least .result) × (c .least .result ∈ l .free)
+    Edge (c .before .before .before .before .before .before .before .args .edges .now) (l .bank) (c .least .result) × (c .least .result ∈ l .free)
 free-port c =
     let l = c .before .before .before .before .loop in
-    and-in (getD (c .before .before .before .before .before .before .args .edges .now) (l .bank) 0) (l .free) (c .least .result) (c .least .ensures .1)
+    and-in (getD (c .before .before .before .before .before .before .before .args .edges .now) (l .bank) 0) (l .free) (c .least .result) (c .least .ensures .1)
 
 without-requires : tie.Need-without-requires Inv-loop μ-loop
 without-requires c κs = (c .least .ensures .0, free-port c .1)
@@ -69,16 +77,16 @@ loop-less c = omega (arith, c .before .before .loop-test .taken)
 
 loop-again : tie.Need-loop-again Inv-loop μ-loop
 loop-again c =
-    let s = c .before .before .before .before .before in
+    let s = c .before .before .before .before .before .before in
     let l = c .before .before .before .loop in
     let q = c .before .before .loop-test .taken in
     ⊎-elim
-    (λ x. rw (x .2, x .3, x .4, x .5) (omega (arith, q), seating-idle (s .pre .0 .0) q (l .inv .1) (x .1 .ensures)))
+    (λ x. rw (x .2, x .3, x .4, x .5) (omega (arith, q), seating-idle (s .pre .0 .0 .few) q (l .inv .1) (x .1 .ensures)))
     (λ x.
     let h = free-port (record { before = record { before = c .before; if1 = x .0 }; least = x .1 }) in
     rw (x .3, x .4, x .5, x .6) (
       omega (arith, q),
-      seating-more (s .pre .0 .0) q (l .inv .1) (h .0) (h .1)
+      seating-more (s .pre .0 .0 .few) q (l .inv .1) (h .0) (h .1)
           (λ k e f. x .1 .ensures .2 k (in-and (getD (s .args .edges .now) (l .bank) 0) (l .free) k e f)) (x .2 .ensures),
     ))
     (c .if1 .came)
@@ -86,7 +94,7 @@ loop-again c =
 returns : tie.Need-returns Inv-loop μ-loop
 returns c =
     let l = c .before .loop in
-    let e : l .bank ≡ c .before .before .before .args .width = omega (arith, l .inv .0, c .loop-test .left) in
+    let e : l .bank ≡ c .before .before .before .before .args .layout .width = omega (arith, l .inv .0, c .loop-test .left) in
     rw e at (l .inv .1)
 
 pub seat-spec : {M : Type 1} → statement M

@@ -20,11 +20,11 @@ use Rattle.matching.proofs.settling.settle_bank.Statement.{statement}
 use Rattle.matching.proofs.settling.settle_bank.Tie as tie
 
 abbrev Inv-loop : tie.InvT-loop
-Inv-loop edges keys owner₀ vacant bank own hopeful₀ owner hopeful =
+Inv-loop edges keys layout images places owner₀ vacant bank own hopeful₀ owner hopeful =
     (owner ≡ owner₀) × ((w : ℕ) → Settling (Edge edges) w owner₀ bank vacant vacant → Settling (Edge edges) w owner bank vacant hopeful)
 
 abbrev μ-loop : tie.MeasureT-loop
-μ-loop edges keys owner₀ vacant bank own hopeful₀ owner hopeful = sum mostWidth (member hopeful)
+μ-loop edges keys layout images places owner₀ vacant bank own hopeful₀ owner hopeful = sum mostWidth (member hopeful)
 
 -- ---- the places
 
@@ -32,7 +32,7 @@ abbrev at : tie.After-least Inv-loop μ-loop → tie.At-loop Inv-loop μ-loop
 at d = d .before .before
 
 abbrev start : tie.After-least Inv-loop μ-loop → tie.Start Inv-loop μ-loop
-start d = d .before .before .before
+start d = d .before .before .before .before
 
 abbrev least-of : tie.After-port-of Inv-loop μ-loop → tie.After-least Inv-loop μ-loop
 least-of c = c .before .before .before .before
@@ -42,12 +42,13 @@ least-of c = c .before .before .before .before
 abbrev Given : tie.Start Inv-loop μ-loop → ℕ → Type 0
 Given s w = Settling (Edge (s .args .edges .now)) w (s .args .owner .now) (s .args .bank) (s .args .vacant) (s .args .vacant)
 
-hopes : (a : tie.At-loop Inv-loop μ-loop) (w : ℕ) → Given (a .before) w
-    → Settling (Edge (a .before .args .edges .now)) w (a .loop .owner) (a .before .args .bank) (a .before .args .vacant) (a .loop .hopeful)
+hopes : (a : tie.At-loop Inv-loop μ-loop) (w : ℕ) → Given (a .before .before) w
+    → let s = a .before .before in
+    Settling (Edge (s .args .edges .now)) w (a .loop .owner) (s .args .bank) (s .args .vacant) (a .loop .hopeful)
 hopes a = a .loop .inv .1
 
 long : (a : tie.At-loop Inv-loop μ-loop) → length (a .loop .owner) ≡ mostWidth
-long a = ap (λ (x : List ℕ). length x) (a .loop .inv .0) ∙ a .before .pre .0 .2
+long a = ap (λ (x : List ℕ). length x) (a .loop .inv .0) ∙ a .before .before .pre .0 .2
 
 abbrev port : tie.After-least Inv-loop μ-loop → ℕ
 port d = d .least .result
@@ -60,8 +61,8 @@ wanted d =
     let h = and-in ports (at d .loop .hopeful) (port d) (d .least .ensures .1) in
     record { edge = h .0; inside = h .1; least = λ k e f. d .least .ensures .2 k (in-and ports (at d .loop .hopeful) k e f) }
 
-few : (s : tie.Start Inv-loop μ-loop) → s .pre .1 .0 ≤ mostWidth
-few s = s .pre .1 .1 .few
+few : (s : tie.Start Inv-loop μ-loop) → s .pre .1 .1 .0 ≤ mostWidth
+few s = s .pre .1 .1 .1 .few
 
 -- the bank's own port
 held-in : (c : tie.After-port-of Inv-loop μ-loop) {w : ℕ} → Given (start (least-of c)) w
@@ -75,7 +76,7 @@ held-in c {w} G =
     (S .opened .inside (c .port-of .result) (S .fewer (c .port-of .result) h) .0, c .port-of .ensures .1, h)
 
 held-few : (c : tie.After-port-of Inv-loop μ-loop) → c .port-of .result < mostWidth
-held-few c = let s = start (least-of c) in omega (arith, held-in c (s .pre .1 .1) .0, few s)
+held-few c = let s = start (least-of c) in omega (arith, held-in c (s .pre .1 .1 .1) .0, few s)
 
 port-held : (c : tie.After-port-of Inv-loop μ-loop) → port (least-of c) ≡ c .port-of .result → ⊥
 port-held c e =
@@ -146,12 +147,19 @@ element-copy-out-ports c = search needs
 
 least-requires : tie.Need-least-requires Inv-loop μ-loop
 least-requires c κs =
-    let s = c .before .before in
-    let S = hopes (c .before) (s .pre .1 .0) (s .pre .1 .1) in
+    let s = c .before .before .before in
+    let S = hopes (c .before) (s .pre .1 .1 .0) (s .pre .1 .1 .1) in
     let o = own-port S in (
-      λ e. and-none (getD (s .args .edges .now) (s .args .bank) 0) (c .before .loop .hopeful) e (o .0) (o .4) (o .3),
-      omega (arith, S .below, S .few),
-      s .pre .0 .1,
+      (
+        λ e. and-none (getD (s .args .edges .now) (s .args .bank) 0) (c .before .loop .hopeful) e (o .0) (o .4) (o .3),
+        s .pre .1 .0 .2,
+        s .pre .1 .0 .0,
+        s .pre .0 .1,
+        s .pre .1 .0 .1,
+      ),
+      λ m. s .pre .1 .0 .4 m (s .args .bank) _ (s .pre .1 .0 .2) (λ k h.
+          let both = and-in (getD (s .args .edges .now) (s .args .bank) 0) (c .before .loop .hopeful) k h in
+          (s .pre .1 .0 .3 k (S .fewer k (both .1)), both .0)),
     )
 
 element-copy-out-rival : tie.Need-element-copy-out-rival Inv-loop μ-loop
@@ -168,13 +176,13 @@ returns c = λ w S.
 port-of-requires : tie.Need-port-of-requires Inv-loop μ-loop
 port-of-requires c κs =
     let d = c .before .before .before in
-    let S = hopes (at d) _ (start d .pre .1 .1) in
+    let S = hopes (at d) _ (start d .pre .1 .1 .1) in
     let o = own-port S in
     let ports : ℕ = getD (start d .args .edges .now) (start d .args .bank) 0 in
     (long (at d), (o .0, in-and ports (at d .loop .hopeful) (o .0) (o .4) (o .3), o .2))
 
 without-requires : tie.Need-without-requires Inv-loop μ-loop
-without-requires c κs = let s = start (least-of c) in let h = held-in c (s .pre .1 .1) in (omega (arith, h .0, few s), h .2)
+without-requires c κs = let s = start (least-of c) in let h = held-in c (s .pre .1 .1 .1) in (omega (arith, h .0, few s), h .2)
 
 without-requires-2 : tie.Need-without-requires-2 Inv-loop μ-loop
 without-requires-2 c κs =
@@ -194,11 +202,11 @@ with-requires c κs = (held-few (c .before .before .before), omega arith)
 cast-augment : tie.Need-cast-augment Inv-loop μ-loop
 cast-augment c =
     let d = least-of (held-of c) in
-    let S = hopes (at d) _ (start d .pre .1 .1) in
+    let S = hopes (at d) _ (start d .pre .1 .1 .1) in
     omega (arith, S .perfect .permutes .below (port d) (S .opened .inside (port d) (S .fewer (port d) (wanted d .inside)) .0), S .few)
 
 augment-requires : tie.Need-augment-requires Inv-loop μ-loop
-augment-requires c κs = let s = start (least-of (held-of c)) in (s .pre .0 .0, (s .pre .1 .0, ready c (s .pre .1 .0) (s .pre .1 .1)))
+augment-requires c κs = let s = start (least-of (held-of c)) in (s .pre .0 .0, (s .pre .1 .1 .0, ready c (s .pre .1 .1 .0) (s .pre .1 .1 .1)))
 
 enum-told : tie.Need-enum-told Inv-loop μ-loop
 enum-told c = search needs
@@ -228,14 +236,14 @@ loop-less : tie.Need-loop-less Inv-loop μ-loop
 loop-less c =
     let a = c .before .before .before .before .before in
     let d = least-of (held-of a) in
-    let G = start d .pre .1 .1 in
+    let G = start d .pre .1 .1 .1 in
     hopeful-less (hopes (at d) _ G) (wanted d) (trial a G) (lost (c .before) _ G) (c .with2 .ensures)
 
 loop-again : tie.Need-loop-again Inv-loop μ-loop
 loop-again c =
     let a = c .before .before .before .before .before in
     let d = least-of (held-of a) in
-    let G = start d .pre .1 .1 in
+    let G = start d .pre .1 .1 .1 in
     let back = restored (hopes (at d) _ G) (wanted d) (trial a G) (lost (c .before) _ G) in (
       back ∙ at d .loop .inv .0,
       λ w H. subst (λ (x : List ℕ). Settling (Edge (start d .args .edges .now)) w x (start d .args .bank) (start d .args .vacant) (c .with2 .result))
