@@ -3,14 +3,14 @@
  * Link with librughtena.a. `rt staticlib rughtena` writes it to target/staticlib, `make install` installs it beside this header.
  *
  * The library is an ELF object for x86-64 with SSE2, without wider vector registers, by the System V calling convention; it may stand in a
- * position-independent program. It calls memcpy and memset and nothing else, and has no writable data, so it runs without an operating
- * system where those two are there.
+ * position-independent program. It calls memset and nothing else, and has no writable data, so it runs without an operating
+ * system where memset is there.
  *
  * Stack memory, whatever w is (measured, with some room; docs/PERFORMANCE.md has the figures), for sets of up to 4,096 words:
  *    rughtena_generate 24 KiB, rughtena_read 19 KiB, rughtena_set 3 KiB, rughtena_follow 1 KiB, rughtena_step 3 KiB
  * and for longer ones:
  *    rughtena_generate 35 KiB, rughtena_read 84 KiB, rughtena_step 3 KiB
- * A dynamic linker that looks memcpy and memset up when they are first called needs stack for that too, 3 KiB where it was measured; a program
+ * A dynamic linker that looks memset up when it is first called needs stack for that too, 3 KiB where it was measured; a program
  * linked with -z now has none of it.
  *
  * Every call is proved to meet its contract for every argument, so a caller tests nothing first. What the caller owes is C's own
