@@ -7,9 +7,9 @@
  * system where memset is there.
  *
  * Stack memory, whatever w is (measured, with some room; docs/PERFORMANCE.md has the figures), for sets of up to 4,096 words:
- *    rughtena_generate 24 KiB, rughtena_read 19 KiB, rughtena_set 3 KiB, rughtena_follow 1 KiB, rughtena_step 3 KiB
+ *    rughtena_generate 20 KiB, rughtena_read 19 KiB, rughtena_set 3 KiB, rughtena_follow 1 KiB, rughtena_step 3 KiB
  * and for longer ones:
- *    rughtena_generate 35 KiB, rughtena_read 84 KiB, rughtena_step 3 KiB
+ *    rughtena_generate 30 KiB, rughtena_read 84 KiB, rughtena_step 3 KiB
  * A dynamic linker that looks memset up when it is first called needs stack for that too, 3 KiB where it was measured; a program
  * linked with -z now has none of it.
  *

@@ -4,7 +4,7 @@ ghost use mathlib.Core.Path.{_≡_};
 ghost use Prim.Native.Nat.{ℕ, _/_, _^_, _<_};
 ghost use Rattle.division.specs.Reciprocal.{Reciprocal};
 
-// The reciprocal of a width, times 2^32 and rounded up.
+// The reciprocal of a width: the whole part of 2^32 / w, and 1 more, so that no quotient comes out too low.
 pub fn reciprocal(w: usize) -> usize
     requires { ⌜ (0 < w) × (w < 2 ^ 8) ⌝ }
     ensures { λ r. ⌜ Reciprocal w r ⌝ }

@@ -59,14 +59,20 @@ w s = s .args .shape .width
 abbrev p : Start → ℕ → ℕ
 p s = orderOf (length (s .args .images .now)) (s .args .images .now)
 
-abbrev entry : tie.After-begin Inv-loop μ-loop → Start
-entry c = c .before .before .before .before .before .before .before .before .before .before .before
+abbrev reciprocal-start : tie.After-reciprocal Inv-loop μ-loop → Start
+reciprocal-start c = c .before .before .before .before
 
-abbrev reciprocal-begun : tie.After-begin Inv-loop μ-loop → tie.After-reciprocal Inv-loop μ-loop
-reciprocal-begun c = c .before .before .before .before .before .before .before
+abbrev places-reciprocal : tie.After-start-places Inv-loop μ-loop → tie.After-reciprocal Inv-loop μ-loop
+places-reciprocal c = c .before .before .before
 
 abbrev places-begun : tie.After-begin Inv-loop μ-loop → tie.After-start-places Inv-loop μ-loop
 places-begun c = c .before .before .before .before
+
+abbrev reciprocal-begun : tie.After-begin Inv-loop μ-loop → tie.After-reciprocal Inv-loop μ-loop
+reciprocal-begun c = places-reciprocal (places-begun c)
+
+abbrev entry : tie.After-begin Inv-loop μ-loop → Start
+entry c = reciprocal-start (reciprocal-begun c)
 
 abbrev begun-loop : tie.At-loop Inv-loop μ-loop → tie.After-begin Inv-loop μ-loop
 begun-loop c = c .before .before .before
@@ -140,10 +146,10 @@ roomy : (s : Start) → Roomy ((s .args .shape .cycles + 63) / 64) (cycles (n s)
 roomy s = let e = s .pre .0 .0 .cycles in record { enough = omega (arith, e); tight = omega (arith, e) }
 
 laid-out : (k : tie.After-reciprocal Inv-loop μ-loop)
-    → let s = k .before .before .before .before in
+    → let s = reciprocal-start k in
     Laid (record { width = w s; reciprocal = k .reciprocal .result; per = (s .args .shape .cycles + 63) / 64 })
 laid-out k =
-    let s = k .before .before .before .before in
+    let s = reciprocal-start k in
     let D = s .pre .0 .0 .dims in
     record { reciprocal = k .reciprocal .ensures; few = D .narrow; room = laid-room D (roomy s) }
 
@@ -153,7 +159,7 @@ add-t18 c = let S = c .before .before .before .before .before .pre .0 .0 in omeg
 start-places-requires : tie.Need-start-places-requires Inv-loop μ-loop
 start-places-requires c κs =
     let k : tie.After-reciprocal Inv-loop μ-loop = c .before .before in
-    let s = k .before .before .before .before in
+    let s = reciprocal-start k in
     (refl, laid-out k, rw (sym (s .pre .0 .0 .cycles)) at (roomy s))
 
 numbered-requires : tie.Need-numbered-requires Inv-loop μ-loop
@@ -163,7 +169,7 @@ numbered-requires-2 : tie.Need-numbered-requires-2 Inv-loop μ-loop
 numbered-requires-2 c κs = search needs
 
 begin-requires : tie.Need-begin-requires Inv-loop μ-loop
-begin-requires c κs = let s = c .before .before .before .before .before .before .before .before .before .before in (s .pre .0 .0, s .pre .1 .0 .1)
+begin-requires c κs = let s = reciprocal-start (places-reciprocal (c .before .before .before)) in (s .pre .0 .0, s .pre .1 .0 .1)
 
 loop-holds : tie.Need-loop-holds Inv-loop μ-loop
 loop-holds c =
@@ -180,14 +186,6 @@ loop-holds c =
         (places-begun d .start-places .ensures .0, λ m. unread-start none (s .pre .0 .0 .cycles) (places-begun d .start-places .ensures .1 m)),
       ),
     )
-
--- the layout of the banks
-laid : (a : tie.At-loop Inv-loop μ-loop) → Laid (record {
-  width = w (start a);
-  reciprocal = reciprocal-begun (begun-loop a) .reciprocal .result;
-  per = (start a .args .shape .cycles + 63) / 64;
-})
-laid a = laid-out (reciprocal-begun (begun-loop a))
 
 -- the next line can be taken
 due : (c : tie.After-words Inv-loop μ-loop)
@@ -213,7 +211,13 @@ take-line-requires c κs =
     let s = start a in
     let N = a .loop .inv .3 .3 in (
       (_, _, _, _, due k),
-      (a .loop .inv .1 .0, N .0, laid a, λ m. ranked-unread (s .args .images .now) (due k) (roomy s) (N .1 m) _ refl refl m),
+      (
+        a .loop .inv .1 .0,
+        N .0,
+        laid-out (reciprocal-begun (begun-loop a)),
+        λ m.
+            ranked-unread (s .args .images .now) (due k) (roomy s) (N .1 m) _ refl refl m,
+      ),
     )
 
 -- the line that was taken
@@ -249,7 +253,7 @@ drop-read-requires c κs =
     let T = took d in
     let L = q .plan-line .ensures in
     let N = a .loop .inv .3 .3 in (
-      (N .0, laid a, L .blank .reads-long),
+      (N .0, laid-out (reciprocal-begun (begun-loop a)), L .blank .reads-long),
       λ m b l. rw (read-planned T L b l) (read-left T (roomy s) (N .1 m) b l),
     )
 
