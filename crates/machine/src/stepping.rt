@@ -31,6 +31,7 @@ use tables::address_in;
 use tables::cursor_at;
 use tables::eight_sources;
 use tables::open;
+use tables::sixteen_sources;
 use tables::sources;
 use tables::spare_used;
 
@@ -93,6 +94,9 @@ fn carry(bytes: &[u8], cursor: Cursor, shape: Shape, standing: &mut [u8]) -> Pas
 {
     if shape.lines == 8 {
         return eight_sources(bytes, cursor, standing);
+    }
+    if shape.lines == 16 {
+        return sixteen_sources(bytes, cursor, standing);
     }
     let mut setting = [0u8; MOST_SWITCHES];
     sources(

@@ -39,6 +39,7 @@ use tables::address_in;
 use tables::cursor_at;
 use tables::eight_sources;
 use tables::open;
+use tables::sixteen_sources;
 use tables::sources;
 use tables::spare_used;
 
@@ -137,6 +138,9 @@ fn carry(
 {
     if shape.lines == 8 {
         return eight_sources(bytes, cursor, standing);
+    }
+    if shape.lines == 16 {
+        return sixteen_sources(bytes, cursor, standing);
     }
     sources(
         bytes,

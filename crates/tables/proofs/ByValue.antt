@@ -1,19 +1,25 @@
 -- A network whose lines are held by value, one level after the other: a line goes in by its input switch, through the inner network of its half and
--- out by an output switch (`level`). From two lines it goes to four and to eight. The number form of eight lines and the general form leave the same
--- (`eight-same`), as a network permutes its lines.
-use Prim.Native.Nat.{ℕ, zero, suc, _+_, _*_, _-_, _/_, _%_, _^_, _<_}
+-- out by an output switch (`level`). From two lines it goes to four, to eight and to sixteen. The number form and the general form of a network leave
+-- the same (`number-same`), as a network permutes its lines.
+use Prim.Native.Nat.{ℕ, zero, suc, _+_, _*_, _-_, _/_, _%_, _^_, _<_, _≤_}
 use mathlib.Core.Path.{_≡_, refl, sym, ap, _∙_}
 use mathlib.Core.List.{List, [], _∷_}
+use native.Mathlib.Nat.{sub-zero}
 use native.Mathlib.Omega.{arith}
+use native.Mathlib.Decide.{decLt}
+use lib.Count.{ones}
 use lib.ListN.{length, getD, set}
 use Rattle.limits.specs.Limits.{mostWidth}
 use Rattle.laws.specs.Choice.{ifLt, ifEq}
 use Rattle.laws.specs.Sum.{hits}
 use Rattle.laws.proofs.Permutations.{onto}
+use Rattle.laws.proofs.Sums.{hits-few}
 use Rattle.laws.proofs.Tabulates.{Filling, filling-more}
 use Rattle.bits.specs.Bits.{digit, bit, field}
 use Rattle.bits.specs.Reading.{onward}
 use Rattle.bits.specs.declared.reader.Cursor.{Cursor}
+use Rattle.bits.specs.declared.reader.Field.{Field}
+use Rattle.bits.specs.inner.Taking.{fieldBehind}
 use Rattle.bits.proofs.Digits.{digit-lt}
 use Rattle.bits.proofs.Fields.{bit-field}
 use Rattle.network.specs.Network.{bitCount, half, innerBit, outputBit, leaves}
@@ -21,13 +27,15 @@ use Rattle.network.specs.inner.Sizes.{Sized}
 use Rattle.network.proofs.Leaves.{leaves-below, leaves-permutes, leaves-ext}
 use Rattle.passing.proofs.Routes.{sized-depth}
 use Rattle.tables.specs.Format.{Shaped}
-use Rattle.tables.specs.inner.Lines.{Sources, Sends}
-use Rattle.tables.specs.inner.ByValue.{lineOf, Carried}
+use Rattle.tables.specs.inner.Lines.{Put, Sources, Sends}
+use Rattle.tables.specs.inner.ByValue.{lineOf, eightOf, Column, Carried}
 use Rattle.tables.specs.declared.Pass.{Pass}
 use Rattle.tables.specs.declared.Shape.{Shape}
 use Rattle.tables.specs.declared.eight.Four.{Four}
+use Rattle.tables.specs.declared.sixteen.Eight.{Eight}
 use Rattle.tables.proofs.Opens.{shape-same}
 use Rattle.tables.proofs.Passes.{line-sized}
+use Rattle.tables.proofs.Puts.{filling-put, ones-field}
 
 -- a switch with bit b sends x and y to u and v
 pub record Switch (b x y u v : ℕ) : Type 0 where
@@ -97,7 +105,7 @@ module _ (e : ℕ) (bits before behind upper lower upper′ lower′ : ℕ → �
         ∙ ap before there;
   }
 
--- a fact of one, two or four numbers
+-- a fact of one, two, three, four or eight numbers
 to-one : (P : ℕ → Type 0) → P 0 → (j : ℕ) → j < 1 → P j
 to-one P p zero l = p
 to-one P p (suc j) l = absurd (omega arith)
@@ -106,10 +114,21 @@ to-two : (P : ℕ → Type 0) → P 0 → P 1 → (j : ℕ) → j < 2 → P j
 to-two P p q zero l = p
 to-two P p q (suc j) l = to-one (λ i. P (suc i)) q j (omega arith)
 
+to-three : (P : ℕ → Type 0) → P 0 → P 1 → P 2 → (j : ℕ) → j < 3 → P j
+to-three P p q r zero l = p
+to-three P p q r (suc j) l = to-two (λ i. P (suc i)) q r j (omega arith)
+
 to-four : (P : ℕ → Type 0) → P 0 → P 1 → P 2 → P 3 → (j : ℕ) → j < 4 → P j
 to-four P p q r s zero l = p
-to-four P p q r s (suc zero) l = q
-to-four P p q r s (suc (suc j)) l = to-two (λ i. P (suc (suc i))) r s j (omega arith)
+to-four P p q r s (suc j) l = to-three (λ i. P (suc i)) q r s j (omega arith)
+
+to-eight : (P : ℕ → Type 0) → P 0 → P 1 → P 2 → P 3 → P 4 → P 5 → P 6 → P 7 → (j : ℕ) → j < 8 → P j
+to-eight P p0 p1 p2 p3 p4 p5 p6 p7 j l = elim (decLt j 4) [
+  | yes m ↦ to-four P p0 p1 p2 p3 j m
+  | no m ↦
+      let place : 4 + (j - 4) ≡ j = omega arith in
+      rw place at (to-four (λ i. P (4 + i)) p4 p5 p6 p7 (j - 4) (omega arith))
+]
 
 -- one line has no switch
 one-line : (bits f : ℕ → ℕ) → Carried 0 bits f f
@@ -152,20 +171,42 @@ eight-lines bits before behind {upper} {lower} {upper′} {lower′} i0 i1 i2 i3
     (to-four (Inputs bits before (lineOf upper) (lineOf lower)) i0 i1 i2 i3) high low
     (to-four (Outputs (outputBit 2 bits) behind (lineOf upper′) (lineOf lower′)) o0 o1 o2 o3)
 
+-- sixteen lines have eight at the inputs, two inner networks and seven at the outputs
+module _ (bits before behind : ℕ → ℕ) (upper lower upper′ lower′ : Eight) where
+  abbrev In : ℕ → Type 0
+  In = Inputs bits before (eightOf upper) (eightOf lower)
+
+  abbrev Out : ℕ → Type 0
+  Out = Outputs (λ j. bits (42 + j)) behind (eightOf upper′) (eightOf lower′)
+
+  pub sixteen-lines : In 0 → In 1 → In 2 → In 3 → In 4 → In 5 → In 6 → In 7
+      → Carried 3 (λ i. bits (8 + i)) (eightOf upper) (eightOf upper′) → Carried 3 (λ i. bits (25 + i)) (eightOf lower) (eightOf lower′)
+      → Out 0 → Out 1 → Out 2 → Out 3 → Out 4 → Out 5 → Out 6
+      → Switch 0 (upper′ .back .fourth) (lower′ .back .fourth) (behind 14) (behind 15) → Carried 4 bits before behind
+  unfolding bitCount ifLt
+  sixteen-lines i0 i1 i2 i3 i4 i5 i6 i7 high low o0 o1 o2 o3 o4 o5 o6 o7 =
+      level 3 bits before behind (eightOf upper) (eightOf lower) (eightOf upper′) (eightOf lower′)
+      (to-eight In i0 i1 i2 i3 i4 i5 i6 i7) high low
+      (to-eight (Outputs (outputBit 3 bits) behind (eightOf upper′) (eightOf lower′)) o0 o1 o2 o3 o4 o5 o6 o7)
+
 -- bits that agree
 pub carried-ext : {d : ℕ} {f before behind : ℕ → ℕ} (g : ℕ → ℕ) → Carried d f before behind → ((i : ℕ) → i < bitCount d → g i ≡ f i)
     → Carried d g before behind
 carried-ext {d} {f} {before} {behind} g C same = record { each = λ x l. ap behind (leaves-ext d g f same x l) ∙ C .each x l }
 
--- eight lines by the digits of a field, which are the bits of the file
-pub sources-carried : {file standing : List ℕ} {at number : ℕ} → number ≡ field file at 17
-    → (length standing ≡ mostWidth) × Carried 3 (λ i. digit number (16 - i)) (λ x. x) (λ y. getD standing y 0) → Sources 3 file at standing
-unfolding bitCount
-sources-carried {file} {standing} {at} {number} e C =
-    let same = carried-ext (λ i. bit file (at + i)) (C .1) (λ i l.
-    let place : 17 - suc i ≡ 16 - i = omega arith in
-    bit-field file at 17 i l ∙ ap (λ (z : ℕ). digit z (17 - suc i)) (sym e) ∙ ap (digit number) place) in
-    record { long = C .0; each = same .each }
+-- what was stored as it stood
+pub carried-stored : {d : ℕ} {bits before behind : ℕ → ℕ} (standing : List ℕ) → Carried d bits before behind
+    → ((y : ℕ) → y < 2 ^ d → getD standing y 0 ≡ behind y) → Carried d bits before (λ y. getD standing y 0)
+carried-stored {d} {bits} standing C stored = record { each = λ x l. stored (leaves d bits x) (leaves-below d bits x l) ∙ C .each x l }
+
+-- lines by the digits of a field, which are the bits of the file
+sources-carried : (d top : ℕ) {file standing : List ℕ} {at number : ℕ} → top + 1 ≡ bitCount d → number ≡ field file at (top + 1)
+    → length standing ≡ mostWidth → Carried d (λ i. digit number (top - i)) (λ x. x) (λ y. getD standing y 0) → Sources d file at standing
+sources-carried d top {file} {standing} {at} {number} count e long C =
+    let same = carried-ext (λ i. bit file (at + i)) C (λ i l.
+    let place : top + 1 - suc i ≡ top - i = omega arith in
+    bit-field file at (top + 1) i (omega arith) ∙ ap (λ (z : ℕ). digit z (top + 1 - suc i)) (sym e) ∙ ap (digit number) place) in
+    record { long = long; each = same .each }
 
 -- an input switch whose lines enter with their own numbers, n and n + 1
 pub input-switch : (n b : ℕ) {at u v : ℕ} → (at ≡ b) × (at < 2) → u ≡ n + at → v ≡ n + 1 - at → Switch b n (n + 1) u v
@@ -179,6 +220,32 @@ pub digit-switch : (number at : ℕ) {x y u v : ℕ} → u ≡ ifEq (digit numbe
     → Switch (digit number at) x y u v
 digit-switch number at eu ev = record { bit = digit-lt number at; first = eu; second = ev }
 
+-- line j of a column
+abbrev Taken : ℕ → ℕ → Four → Four → Four → ℕ → Type 0
+Taken number top x y u j = lineOf u j ≡ ifEq (digit number (top - j)) 0 (lineOf x j) (lineOf y j)
+
+-- a column of three lines, and of a fourth
+pub column-three : {number top : ℕ} {x y u : Four} → u .first ≡ ifEq (digit number top) 0 (x .first) (y .first)
+    → Taken number top x y u 1 → Taken number top x y u 2 → Column 3 number top x y u
+column-three {number} {top} {x} {y} {u} first second third =
+    record { each = to-three (Taken number top x y u) (rw sub-zero first) second third }
+
+pub column-four : {number top : ℕ} {x y u : Four} → Column 3 number top x y u → Taken number top x y u 3 → Column 4 number top x y u
+column-four {number} {top} {x} {y} {u} C fourth =
+    record { each = to-four (Taken number top x y u) (C .each 0 (omega arith)) (C .each 1 (omega arith)) (C .each 2 (omega arith)) fourth }
+
+-- the switches of a column, by what it gives for their first lines and for their second lines
+pub column-switch : {k number top : ℕ} {x y u v : Four} → Column k number top x y u → Column k number top y x v → (j : ℕ) → j < k
+    → Switch (digit number (top - j)) (lineOf x j) (lineOf y j) (lineOf u j) (lineOf v j)
+column-switch {k} {number} {top} first second j l = digit-switch number (top - j) (first .each j l) (second .each j l)
+
+-- the same of a column that begins some digits below the top
+pub column-switch-below : (top from : ℕ) {k number : ℕ} {x y u v : Four} → Column k number (top - from) x y u → Column k number (top - from) y x v
+    → (j : ℕ) → j < k → Switch (digit number (top - (from + j))) (lineOf x j) (lineOf y j) (lineOf u j) (lineOf v j)
+column-switch-below top from first second j l =
+    let place : top - (from + j) ≡ top - from - j = omega arith in
+    rw place (column-switch first second j l)
+
 -- eight stores fill the front
 pub eight-stored : (xs : List ℕ) → length xs ≡ mostWidth → (a b c d e f g h : ℕ)
     → Filling (λ y. getD (a ∷ b ∷ c ∷ d ∷ e ∷ f ∷ g ∷ h ∷ []) y 0) mostWidth 8
@@ -190,27 +257,55 @@ eight-stored xs long a b c d e f g h =
     (omega arith) refl in
     filling-more h (filling-more g (filling-more f (filling-more e four (omega arith) refl) (omega arith) refl) (omega arith) refl) (omega arith) refl
 
+-- four lines more
+pub filling-four : {f : ℕ → ℕ} {i : ℕ} {x : Four} {before after : List ℕ} → Filling f mostWidth i before → Put (lineOf x) 4 i before after
+    → x .first ≡ f (i + 0) → x .second ≡ f (i + 1) → x .third ≡ f (i + 2) → x .fourth ≡ f (i + 3) → Filling f mostWidth (i + 4) after
+filling-four {f} {i} {x} F P first second third fourth =
+    filling-put F P (to-four (λ j. lineOf x j ≡ f (i + j)) first second third fourth)
+
+-- ---- a network taken as one field
+
+-- the bits of eight lines, and of sixteen
+pub eight-count : 17 ≡ bitCount 3
+unfolding bitCount
+eight-count = refl
+
+pub sixteen-count : 49 ≡ bitCount 4
+unfolding bitCount
+sixteen-count = refl
+
+module _ (top : ℕ) (file : List ℕ) (cursor : Cursor) {taken : Field} (e : taken ≡ fieldBehind file cursor (top + 1)) where
+  -- its ones are the crossed switches
+  field-ones : ones (taken .value) ≡ hits (top + 1) (λ i. bit file (cursor .at + i)) 1
+  field-ones = ap (λ (x : Field). ones (x .value)) e ∙ ones-field file (cursor .at) (top + 1)
+
+  pub ones-few : ones (taken .value) ≤ top + 1
+  ones-few = omega (arith, field-ones, hits-few (top + 1) (λ i. bit file (cursor .at + i)) 1)
+
+  pub field-passes : (d : ℕ) {standing : List ℕ} → top + 1 ≡ bitCount d → length standing ≡ mostWidth
+      → Carried d (λ i. digit (taken .value) (top - i)) (λ x. x) (λ y. getD standing y 0)
+      → (taken .rest ≡ onward cursor (top + 1)) × (ones (taken .value) ≡ hits (top + 1) (λ i. bit file (cursor .at + i)) 1)
+      × Sources d file (cursor .at) standing
+  field-passes d count long C =
+      (ap (λ (x : Field). x .rest) e, field-ones, sources-carried d top count (ap (λ (x : Field). x .value) e) long C)
+
 -- ---- the two forms
 
--- a network of eight lines has 17 bits
-eight-sized : {lines count d : ℕ} → Sized lines count d → lines ≡ 8 → (d ≡ 3) × (count ≡ 17)
-unfolding bitCount
-eight-sized S eight = sized-depth 3 eight S
-
-pub eight-bits : {s : Shape} → Shaped s → s .lines ≡ 8 → s .switches ≡ 17
-eight-bits S eight = eight-sized (line-sized (S .dims) (shape-same S) .1) eight .1
+-- a network of 2 ^ d lines has that many bits
+pub number-bits : (d : ℕ) {count : ℕ} {s : Shape} → count ≡ bitCount d → Shaped s → s .lines ≡ 2 ^ d → s .switches ≡ count
+number-bits d count S wide = sized-depth d wide (line-sized (S .dims) (shape-same S) .1) .1 ∙ sym count
 
 -- what the number form gives, told as the general form tells it
-pub eight-sends : {s : Shape} {file standing : List ℕ} {pass : Pass} (cursor : Cursor) → Shaped s → s .lines ≡ 8
-    → (pass .cursor ≡ onward cursor 17) × (pass .crossed ≡ hits 17 (λ i. bit file (cursor .at + i)) 1) × Sources 3 file (cursor .at) standing
+pub number-sends : (d : ℕ) {count : ℕ} {s : Shape} {file standing : List ℕ} {pass : Pass} (cursor : Cursor) → count ≡ bitCount d → Shaped s
+    → s .lines ≡ 2 ^ d
+    → (pass .cursor ≡ onward cursor count) × (pass .crossed ≡ hits count (λ i. bit file (cursor .at + i)) 1) × Sources d file (cursor .at) standing
     → Sends s file cursor pass standing
-eight-sends cursor S eight told = rw (eight-bits S eight) (told .0, told .1, λ d D. rw (eight-sized D eight .0) (told .2))
+number-sends d cursor count S wide told = rw (number-bits d count S wide) (told .0, told .1, λ e D. rw (sized-depth d wide D .0) (told .2))
 
--- both leave the same on the eight lines, whatever the bits
-pub eight-same : {file : List ℕ} {at : ℕ} {general eight : List ℕ} → ((d : ℕ) → Sized 8 17 d → Sources d file at general) → Sources 3 file at eight
-    → (y : ℕ) → y < 8 → getD general y 0 ≡ getD eight y 0
-unfolding bitCount
-eight-same {file} {at} {general} {eight} G E y l =
-    let goes : ℕ → ℕ = leaves 3 (λ i. bit file (at + i)) in
-    let r = onto 8 goes (leaves-permutes 3 (λ i. bit file (at + i))) y l in
-    rw (← r .2) (G 3 (refl, refl) .each (r .0) (r .1) ∙ sym (E .each (r .0) (r .1)))
+-- both leave the same on the lines, whatever the bits
+pub number-same : (d : ℕ) {file : List ℕ} {at : ℕ} {general number : List ℕ} → ((e : ℕ) → Sized (2 ^ d) (bitCount d) e → Sources e file at general)
+    → Sources d file at number → (y : ℕ) → y < 2 ^ d → getD general y 0 ≡ getD number y 0
+number-same d {file} {at} {general} {number} G N y l =
+    let goes : ℕ → ℕ = leaves d (λ i. bit file (at + i)) in
+    let r = onto (2 ^ d) goes (leaves-permutes d (λ i. bit file (at + i))) y l in
+    rw (← r .2) (G d (refl, refl) .each (r .0) (r .1) ∙ sym (N .each (r .0) (r .1)))

@@ -45,10 +45,10 @@ byte-div n k j =
     let e : 8 * k + 8 * j ≡ 8 * (k + j) = omega arith in
     ap (λ (z : ℕ). z % 256) (shr-shr n (8 * k) (8 * j)) ∙ ap (λ (z : ℕ). n / 2 ^ z % 256) e
 
--- the first k bytes of a number stored one behind the other
-unfoldable pub stores : ℕ → ℕ → ℕ → List ℕ → List ℕ
-stores zero number from xs = xs
-stores (suc k) number from xs = set (stores k number from xs) (from + k) (byteOf number k)
+-- the first k values of f stored one behind the other
+unfoldable pub stores : ℕ → (ℕ → ℕ) → ℕ → List ℕ → List ℕ
+stores zero f from xs = xs
+stores (suc k) f from xs = set (stores k f from xs) (from + k) (f k)
 
 -- ---- what was put
 
@@ -85,17 +85,16 @@ put-append {f} {g} {m} {k} {from} {at} {before} {xs} {after} P Q behind same = r
   below = λ i l. Q .below i (omega arith) ∙ P .below i l;
 }
 
--- the bytes of a number
-pub put-stores : (k number from : ℕ) (xs : List ℕ) → from + k ≤ length xs → Put (byteOf number) k from xs (stores k number from xs)
+-- values stored one behind the other
+pub put-stores : (k : ℕ) (f : ℕ → ℕ) (from : ℕ) (xs : List ℕ) → from + k ≤ length xs → Put f k from xs (stores k f from xs)
 unfolding stores
-put-stores zero number from xs l = put-none (byteOf number) from xs
-put-stores (suc k) number from xs l =
-    let P = put-stores k number from xs (omega arith) in
+put-stores zero f from xs l = put-none f from xs
+put-stores (suc k) f from xs l =
+    let P = put-stores k f from xs (omega arith) in
     let more : k + 1 ≡ suc k = omega arith in
-    let here : byteOf number (k + 0) ≡ byteOf number k = ap (byteOf number) (add-zero k) in
+    let here : f (k + 0) ≡ f k = ap f (add-zero k) in
     rw more at
-    (put-append P (put-one (λ j. byteOf number (k + j)) (from + k) (byteOf number k) (stores k number from xs) (omega (arith, P .long)) (sym here)) refl
-    (λ j m. refl))
+    (put-append P (put-one (λ j. f (k + j)) (from + k) (f k) (stores k f from xs) (omega (arith, P .long)) (sym here)) refl (λ j m. refl))
 
 -- a front that is filled further
 pub filling-put : {f g : ℕ → ℕ} {size k i : ℕ} {before after : List ℕ} → Filling f size i before → Put g k i before after

@@ -18,11 +18,11 @@ use bits::Cursor;
 const EIGHT_BITS: usize = 17;
 
 // What stands on four lines.
-struct Four {
-    first: u8,
-    second: u8,
-    third: u8,
-    fourth: u8,
+pub struct Four {
+    pub first: u8,
+    pub second: u8,
+    pub third: u8,
+    pub fourth: u8,
 }
 
 // A binary digit of a number, of weight 2^at.
@@ -34,7 +34,7 @@ fn bit_of(number: u64, at: usize) -> u8
 }
 
 // What leaves on a line of the switch whose bit is that digit: `straight` where it stands straight, else `crossed`.
-fn leaving(number: u64, at: usize, straight: u8, crossed: u8) -> u8
+pub fn leaving(number: u64, at: usize, straight: u8, crossed: u8) -> u8
     requires { ⌜ at < 64 ⌝ }
     ensures { λ r. ⌜ r ≡ ifEq (digit number at) 0 straight crossed ⌝ }
 {
@@ -46,7 +46,7 @@ fn leaving(number: u64, at: usize, straight: u8, crossed: u8) -> u8
 
 // A network of four lines, whose five bits are the digits from `top` down: two switches at the inputs, one in each half, one at the outputs. The
 // last output switch has no bit and stands straight.
-fn carry_four(number: u64, top: usize, lines: Four) -> Four
+pub fn carry_four(number: u64, top: usize, lines: Four) -> Four
     requires { ⌜ (4 ≤ top) × (top < 64) ⌝ }
     ensures { λ r. ⌜ Carried 2 (λ i. digit number (top - i)) (lineOf lines) (lineOf r) ⌝ }
 {
@@ -105,7 +105,7 @@ fn carry_eight(number: u64, standing: &mut [u8])
     standing[7] = lower.fourth;
 }
 
-// What `sources` leaves of a network of eight lines (`eight-same`), whose bits are taken as one field. Only our own crates call it.
+// What `sources` leaves of a network of eight lines (`number-same`), whose bits are taken as one field. Only our own crates call it.
 pub fn eight_sources(file: &[u8], cursor: Cursor, standing: &mut [u8]) -> Pass
     requires { ⌜ (8 ≤ length (now file)) × Room cursor 17 × (length (now standing) ≡ mostWidth) ⌝ }
     ensures { λ r. ⌜ (r .cursor ≡ onward cursor 17) × (r .crossed ≡ hits 17 (λ i. bit (now (file .entry)) (cursor .at + i)) 1)

@@ -2,6 +2,7 @@
 mod eight;
 mod lines;
 mod opening;
+mod sixteen;
 
 use bits::Cursor;
 pub use eight::eight_sources;
@@ -15,6 +16,7 @@ pub use opening::open;
 pub use opening::shape_of;
 pub use opening::test_limits;
 use refusal::Refusal;
+pub use sixteen::sixteen_sources;
 
 // What a checked header says of a set.
 pub struct Shape {

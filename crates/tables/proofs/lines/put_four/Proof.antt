@@ -3,6 +3,7 @@ use native.Mathlib.Nat.{add-zero, div-one}
 use native.Mathlib.Omega.{arith}
 use borrow.Author.Needs.{needs}
 use lib.ListN.{length-set}
+use Rattle.tables.specs.inner.Lines.{byteOf}
 use Rattle.tables.proofs.Puts.{stores, put-stores}
 use Rattle.tables.proofs.lines.put_four.Statement.{statement}
 use Rattle.tables.proofs.lines.put_four.Tie as tie
@@ -47,7 +48,7 @@ returns : tie.Need-returns
 unfolding stores
 returns c =
     let a = c .args in
-    rw (add-zero (a .from), div-one (a .four)) at (put-stores 4 (a .four) (a .from) (a .found .now) (c .pre .0))
+    rw (add-zero (a .from), div-one (a .four)) at (put-stores 4 (byteOf (a .four)) (a .from) (a .found .now) (c .pre .0))
 
 pub put-four-spec : {M : Type 1} → statement M
 put-four-spec =
