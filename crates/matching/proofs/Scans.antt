@@ -41,6 +41,10 @@ module _ {ports rest from w : ℕ} {images : List ℕ} where
       none = λ m. absurd (omega arith);
     }
 
+  -- the search was given up
+  pub looked-given-up : {r : ℕ} → mostWidth < r → FirstPort ports rest from w images r
+  looked-given-up l = record { found = λ m. absurd (omega arith); none = λ m. absurd (omega arith) }
+
   pub looked-end : {left r : ℕ} → Looked ports rest from w images left → left ≡ 0 → r ≡ mostWidth → FirstPort ports rest from w images r
   looked-end L e none = record {
     found = λ l. absurd (omega arith);
@@ -49,8 +53,10 @@ module _ {ports rest from w : ℕ} {images : List ℕ} where
 
 -- the numbers of a bank before number i have no place in question
 pub record Searched (ports bank : ℕ) (layout : Layout) (images places : List ℕ) (i : ℕ) : Type 0 where
-  pub inside : i < layout .per
   pub passed : (a : ℕ) → a < 64 * i → Place places (layout .per) bank a → portOf (layout .width) images (a * layout .width + bank) ∈ ports → ⊥
+
+pub searched-none : {ports bank : ℕ} {layout : Layout} {images places : List ℕ} → Searched ports bank layout images places 0
+searched-none = record { passed = λ a l. absurd (omega arith) }
 
 -- a number of a bank among all numbers, and the word at which its places begin
 pub number-inside : {bank i : ℕ} {layout : Layout} → Laid layout → bank < layout .width → i < layout .per
@@ -87,9 +93,6 @@ module _ {keys : List ℕ} {bank ports : ℕ} {layout : Layout} {images places :
   pub words-few : (i j : ℕ) → i < per → j < 64 → j ∈ getD places (bank * per + i) 0 → begins i + j * w < mostWords
   words-few i j m l h = rw (← word-at i j) (K .few (64 * i + j) (omega arith) (place-at i j l h))
 
-  pub searched-none : (k : ℕ) → k ∈ ports → Searched ports bank layout images places 0
-  searched-none k h = let a = K .head k h in record { inside = omega (arith, a .1); passed = λ b l. absurd (omega arith) }
-
   module _ {i r : ℕ} (S : Searched ports bank layout images places i)
       (F : FirstPort ports (getD places (bank * per + i) 0) (begins i) w images r) where
     -- a place of number i, as the code takes it
@@ -101,27 +104,19 @@ module _ {keys : List ℕ} {bank ports : ℕ} {layout : Layout} {images places :
         let sum : 64 * i + a % 64 ≡ a = omega arith in
         ap (λ (z : ℕ). z * w + bank) (sym sum) ∙ word-at i (a % 64)
 
-    -- none in number i: go on, where some port is in question
-    pub searched-more : mostWidth ≤ r → (k : ℕ) → k ∈ ports → Searched ports bank layout images places (i + 1)
-    searched-more none k h =
-        let next : (a : ℕ) → a < 64 * (i + 1) → Place places per bank a → portOf w images (a * w + bank) ∈ ports → ⊥ =
-        λ a l s t. elim (decLt a (64 * i)) [
-          | yes m ↦ S .passed a m s t
-          | no m ↦
-              let e : a / 64 ≡ i = omega arith in
-              F .none none (a % 64) (taken a e s) (subst (λ (z : ℕ). portOf w images z ∈ ports) (word-of a e) t)
-        ] in
-        let a = K .head k h in
-        record {
-          inside = elim (decLt (a .0) (64 * (i + 1))) [
-            | yes m ↦ absurd (next (a .0) m (a .2) (subst (λ (z : ℕ). z ∈ ports) (sym (a .4)) h))
-            | no m ↦ omega (arith, a .1)
-          ];
-          passed = next;
-        }
+    -- none in number i: go on
+    pub searched-more : r ≡ mostWidth → Searched ports bank layout images places (i + 1)
+    searched-more none = record {
+      passed = λ a l s t. elim (decLt a (64 * i)) [
+        | yes m ↦ S .passed a m s t
+        | no m ↦
+            let e : a / 64 ≡ i = omega arith in
+            F .none none (a % 64) (taken a e s) (subst (λ (z : ℕ). portOf w images z ∈ ports) (word-of a e) t)
+      ];
+    }
 
     -- found: the place, and that no port's head comes before it
-    module _ (l : r < mostWidth) where
+    module _ (here : i < per) (l : r < mostWidth) where
       abbrev place : ℕ
       place = 64 * i + F .found l .0
 
@@ -129,7 +124,7 @@ module _ {keys : List ℕ} {bank ports : ℕ} {layout : Layout} {images places :
       lower =
           let f = F .found l in
           let at : r ≡ portOf w images (place * w + bank) = f .3 ∙ ap (portOf w images) (sym (word-at i (f .0))) in
-          rw at (K .least place (omega (arith, S .inside, f .1)) (place-at i (f .0) (f .1) (f .2)))
+          rw at (K .least place (omega (arith, here, f .1)) (place-at i (f .0) (f .1) (f .2)))
 
       after : (a : ℕ) → Place places per bank a → portOf w images (a * w + bank) ∈ ports → place ≤ a
       after a s t = elim (decLt a place) [
@@ -143,9 +138,8 @@ module _ {keys : List ℕ} {bank ports : ℕ} {layout : Layout} {images places :
         ]
       ]
 
-      pub searched-found : (r < mostWidth) × (r ∈ ports) × ((k : ℕ) → k ∈ ports → keyAt keys bank r ≤ keyAt keys bank k)
+      pub searched-found : (r ∈ ports) × ((k : ℕ) → k ∈ ports → keyAt keys bank r ≤ keyAt keys bank k)
       searched-found = (
-        l,
         F .found l .4,
         λ k h.
             let a = K .head k h in

@@ -1,7 +1,7 @@
 -- Banks seated in turn, each at the free port of least key. A perfect matching that leaves the earlier banks their ports must give the bank at
 -- hand a free one, so it has the least port that it can have; and a bank that is seated later takes nothing from that.
 use Prim.Native.Nat.{ℕ, _+_, _≤_, _<_}
-use mathlib.Core.Path.{_≡_, sym, ap, subst, _∙_}
+use mathlib.Core.Path.{_≡_, refl, sym, ap, subst, _∙_}
 use mathlib.Core.List.{List}
 use mathlib.Core.Logic.{⊎-elim}
 use native.Mathlib.Omega.{arith}
@@ -11,22 +11,22 @@ use lib.Seq.{getD-set-same, getD-set-other}
 use Rattle.limits.specs.Limits.{mostWidth}
 use Rattle.laws.specs.Sum.{is, hits}
 use Rattle.laws.proofs.Sums.{is-eq, is-ne, is-le, sum-ext, sum-zero}
-use Rattle.sets.specs.Set.{member, _∈_, Collects, With, Without}
+use Rattle.sets.specs.Set.{member, _∈_, Collects, With, Without, Minus}
 use Rattle.matching.specs.Matching.{ports, Perfect, unowned}
 use Rattle.matching.specs.First.{keyAt, Assigns, Follows, Least, Foremost}
 use Rattle.matching.specs.inner.Search.{Partial}
-use Rattle.matching.specs.inner.Settling.{Seating, Keeping, Placed}
-use Rattle.sets.proofs.Members.{member-zero, without-only, without-gone, without-kept, with-cases, with-here, with-there}
+use Rattle.matching.specs.inner.Settling.{Seating, Seats, Unseated, Preferred, Keeping, Placed}
+use Rattle.sets.proofs.Members.{member-le, member-zero, without-only, without-gone, without-kept, with-cases, with-here, with-there}
 use Rattle.matching.proofs.Matchings.{ports-set, matches-free, one-port}
 use Rattle.matching.proofs.Completing.{partial-perfect}
 
 module _ {E : ℕ → ℕ → Type 0} {w : ℕ} {keys : List ℕ} where
   -- no bank is seated yet
   pub seating-none : {owner seats : List ℕ} {free : ℕ} → w ≤ mostWidth → length owner ≡ mostWidth → length seats ≡ mostWidth
-      → ((k : ℕ) → k < w → getD owner k 0 ≡ unowned) → Collects free w (λ k. k < w) → Seating E w keys owner seats 0 free 0
-  seating-none few long seats-long none C = record {
+      → ((k : ℕ) → k < w → getD owner k 0 ≡ unowned) → ((d : ℕ) → d < w → getD seats d 0 < mostWidth) → Collects free w (λ k. k < w) → Seating E w keys owner seats 0 free 0
+  seating-none few long seats-long none below C = record {
     long = long;
-    seats-long = seats-long;
+    in-turn = record { long = seats-long; few = below; least = λ d k l. absurd (omega arith) };
     seats-owned = λ d l. absurd (omega arith);
     matches = matches-free few none;
     vacant = record { inside = λ k h. let l = C .inside k h .0 in (l, none k l); every = λ k l _. C .every k l l };
@@ -42,13 +42,27 @@ module _ {E : ℕ → ℕ → Type 0} {w : ℕ} {keys : List ℕ} where
     none-yet =
         sum-ext w (λ k. is (getD owner k 0) b) (λ k. 0)
         (λ k q. is-ne (getD owner k 0) b λ e.
-        absurd (omega (arith, S .seated k q (λ u. omega (arith, u, e)), e))) ∙ sum-zero w
+        absurd (omega (arith, S .seated k q (λ u. omega (arith, u, e)) .0, e))) ∙ sum-zero w
+
+    -- a port is free, or it is an earlier bank's seat
+    free-or-seat : (k : ℕ) → k < w → ((x : ℕ) → x < b → k ≡ getD seats x 0 → ⊥) → k ∈ free
+    free-or-seat k q n = elim (ℕ-discrete (getD owner k 0) unowned) [
+      | yes u ↦ S .vacant .every k q u
+      | no o ↦ let r = S .seated k q o in absurd (n (getD owner k 0) (r .0) (sym (r .1)))
+    ]
 
     -- no port is free to it
-    pub seating-idle : {idle′ : ℕ} → With idle b 1 idle′ → Seating E w keys owner seats (b + 1) free idle′
-    seating-idle W = record {
+    pub seating-idle : {idle′ : ℕ} → ((k : ℕ) → E b k → k ∈ free → ⊥) → With idle b 1 idle′ → Seating E w keys owner seats (b + 1) free idle′
+    seating-idle none W = record {
       long = S .long;
-      seats-long = S .seats-long;
+      in-turn = record {
+        long = S .in-turn .long;
+        few = S .in-turn .few;
+        least = λ d k q m e n. elim (ℕ-discrete d b) [
+          | yes z ↦ absurd (none k (rw z at e) (free-or-seat k m (λ x y. n x (omega arith))))
+          | no ne ↦ S .in-turn .least d k (omega arith) m e n
+        ];
+      };
       seats-owned = λ d q n. elim (ℕ-discrete d b) [
         | yes e ↦ absurd (n (rw e (with-here W)))
         | no ne ↦ S .seats-owned d (omega arith) (λ h. n (with-there W d h))
@@ -65,7 +79,7 @@ module _ {E : ℕ → ℕ → Type 0} {w : ℕ} {keys : List ℕ} where
           | no ne ↦ with-there W k (S .waiting .every k (omega arith) n)
         ];
       };
-      seated = λ k q o. omega (arith, S .seated k q o);
+      seated = λ k q o. let r = S .seated k q o in (omega (arith, r .0), r .1);
       least = S .least;
     }
 
@@ -83,6 +97,13 @@ module _ {E : ℕ → ℕ → Type 0} {w : ℕ} {keys : List ℕ} where
 
       inside : port < length owner
       inside = omega (arith, port-below, few, S .long)
+
+      -- the seats behind it
+      here : getD (set seats b port) b 0 ≡ port
+      here = getD-set-same seats b port 0 (omega (arith, few, S .in-turn .long))
+
+      there : (d : ℕ) → (d ≡ b → ⊥) → getD (set seats b port) d 0 ≡ getD seats d 0
+      there d ne = getD-set-other seats b d port 0 ne
 
       -- what is shown of the port, and of any other
       at : (k : ℕ) (P : ℕ → ℕ → Type 0) → P port b → ((k ≡ port → ⊥) → P k (getD owner k 0)) → P k (getD owner′ k 0)
@@ -111,7 +132,7 @@ module _ {E : ℕ → ℕ → Type 0} {w : ℕ} {keys : List ℕ} where
         | yes e ↦ S .vacant .every (m b) (A .below b l) e
         | no o ↦
             let d : ℕ = getD owner (m b) 0 in
-            let q : d < b = S .seated (m b) (A .below b l) o in
+            let q : d < b = S .seated (m b) (A .below b l) o .0 in
             let same : m d ≡ m b =
             one-port (S .matches) (m d) (m b) (A .below d (omega arith)) (A .below b l) (omega arith) (F d q) in
             let z : d ≡ b = A .apart d b (omega arith) l same in
@@ -121,12 +142,25 @@ module _ {E : ℕ → ℕ → Type 0} {w : ℕ} {keys : List ℕ} where
       pub seating-more : Seating E w keys owner′ (set seats b port) (b + 1) free′ idle
       seating-more = record {
         long = simp length-set (S .long);
-        seats-long = simp length-set (S .seats-long);
+        in-turn = record {
+          long = simp length-set (S .in-turn .long);
+          few = λ d q. elim (ℕ-discrete d b) [
+            | yes e ↦ rw (e, here) (omega (arith, port-below, few))
+            | no ne ↦ rw (there d ne) (S .in-turn .few d q)
+          ];
+          least = λ d k q m e n.
+              let earlier : (x : ℕ) → x < b → x ≤ d → k ≡ getD seats x 0 → ⊥ =
+              λ x y z s. n x z (s ∙ sym (there x (λ u. omega arith))) in
+              elim (ℕ-discrete d b) [
+                | yes z ↦ rw (z, here) (least k (rw z at e) (free-or-seat k m (λ x y. earlier x y (omega arith))))
+                | no ne ↦ rw (there d ne) (S .in-turn .least d k (omega arith) m e (λ x y. earlier x (omega arith) y))
+              ];
+        };
         seats-owned = λ d q n. elim (ℕ-discrete d b) [
-          | yes e ↦ rw (e, getD-set-same seats b port 0 (omega (arith, few, S .seats-long))) (port-below, getD-set-same owner port b 0 inside)
+          | yes e ↦ rw (e, here) (port-below, getD-set-same owner port b 0 inside)
           | no ne ↦
               let r = S .seats-owned d (omega arith) n in
-              rw (getD-set-other seats b d port 0 ne)
+              rw (there d ne)
               (r .0, getD-set-other owner port (getD seats d 0) b 0 (λ z. omega (arith, r .1, port-free, ap (λ (k : ℕ). getD owner k 0) z, few)) ∙ r .1)
         ];
         matches = record {
@@ -154,10 +188,11 @@ module _ {E : ℕ → ℕ → Type 0} {w : ℕ} {keys : List ℕ} where
             | no ne ↦ S .waiting .every k (omega arith) (λ p. n (omega (arith, p, count k (omega arith))))
           ];
         };
-        seated = λ k q. at k (λ _ x. (x ≡ unowned → ⊥) → x < b + 1) (λ _. omega arith) (λ _ o. omega (arith, S .seated k q o));
+        seated = λ k q. at k (λ k x. (x ≡ unowned → ⊥) → (x < b + 1) × (getD (set seats b port) x 0 ≡ k)) (λ _. (omega arith, here))
+            (λ _ o. let r = S .seated k q o in (omega (arith, r .0), there (getD owner k 0) (λ z. omega (arith, r .0)) ∙ r .1));
         least = λ k q. at k (λ k x. (x ≡ unowned → ⊥) → Least E w keys owner′ x k)
             (λ _ m A F. let G = followed m b (omega arith) F in least (m b) (A .along b l) (goes-free m A G))
-            (λ _ o m A F. S .least k q o m A (followed m (getD owner k 0) (omega (arith, S .seated k q o)) F));
+            (λ _ o m A F. S .least k q o m A (followed m (getD owner k 0) (omega (arith, S .seated k q o .0)) F));
       }
 
   -- all banks are seated or idle
@@ -209,6 +244,40 @@ module _ {E : ℕ → ℕ → Type 0} {w : ℕ} {keys : List ℕ} where
             let e = F d l in
             let z = seat (n d) (A .below d (omega (arith, K .upto))) (omega arith) in
             ap (λ (j : ℕ). getD owner j 0) (z ∙ ap (λ (x : ℕ). getD seats x 0) e) ∙ seat-owned d (omega (arith, K .upto)) .1
+
+-- ---- the seats where a bank is settled
+
+module _ (seats : List ℕ) (bank : ℕ) {w unseated one unseated′ : ℕ} (U : Unseated w seats bank unseated)
+    (O : With 0 (getD seats bank 0) 1 one) (M : Minus unseated one unseated′) where
+  -- the bank's seat is taken out, whether it is there or not
+  pub unseated-more : Unseated w seats (bank + 1) unseated′
+  unseated-more = record {
+    inside = λ k h.
+        let old : k ∈ unseated = omega (arith, M .members k, h, member-le unseated k) in
+        let r = U .inside k old in (
+          r .0,
+          λ d l e. elim (ℕ-discrete d bank) [
+            | yes z ↦
+                let gone : member one k ≡ 1 = rw (e ∙ ap (λ (x : ℕ). getD seats x 0) z) (with-here O) in
+                omega (arith, M .members k, h, gone, member-le unseated k)
+            | no ne ↦ r .1 d (omega arith) e
+          ],
+        );
+    every = λ k l n.
+        let old = U .every k l (λ d q. n d (omega arith)) in
+        let kept : member one k ≡ 0 = outside k (λ h. ⊎-elim (λ z. omega (arith, z, member-zero k)) (λ z. n bank (omega arith) z) (with-cases O k h)) in
+        omega (arith, M .members k, old, kept);
+  }
+    where
+      outside : (k : ℕ) → (k ∈ one → ⊥) → member one k ≡ 0
+      outside k f = elim (ℕ-discrete (member one k) 1) [ yes e ↦ absurd (f e) | no ne ↦ omega (arith, member-le one k) ]
+
+  pub seats-preferred : {E : ℕ → ℕ → Type 0} {keys : List ℕ} → Seats E w keys seats w → bank < w → Preferred (E bank) keys bank (getD seats bank 0) unseated′
+  seats-preferred S l = record {
+    few = S .few bank l;
+    gone = λ h. unseated-more .inside (getD seats bank 0) h .1 bank (omega arith) refl;
+    least = λ k e h. let r = unseated-more .inside k h in S .least bank k l (r .0) e (λ x m z. r .1 x (omega arith) z);
+  }
 
 -- ---- which banks own their seats
 

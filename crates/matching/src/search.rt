@@ -1,8 +1,9 @@
 // Perfect matchings by augmenting search (Kuhn). This module is private to the crate, so its functions may have a `requires`.
 ghost use mathlib.Core.Path.{_≡_};
-ghost use Prim.Native.Nat.{ℕ, _≤_};
-ghost use lib.ListN.{length};
+ghost use Prim.Native.Nat.{ℕ, _≤_, _<_};
+ghost use lib.ListN.{length, getD};
 ghost use Rattle.limits.specs.Limits.{mostWidth};
+ghost use Rattle.sets.specs.Set.{_∈_};
 ghost use Rattle.matching.specs.Graph.{Edge};
 ghost use Rattle.matching.specs.Matching.{Perfect, Completes};
 ghost use Rattle.matching.specs.inner.Search.{Ready, Searched, Partial};
@@ -11,6 +12,7 @@ use limits::MOST_WIDTH;
 use sets::below;
 use sets::lowest;
 use sets::minus;
+use sets::tail;
 use sets::with;
 use sets::without;
 
@@ -20,6 +22,24 @@ pub enum Search {
     Found(usize),
     // No way leads to a free port; these ports are still unseen.
     Lost(u64),
+}
+
+// One of these ports, which are not none: the first whose owner has an edge to a free port, or else the lowest. A search that takes it ends soon.
+fn nearest(edges: &[u64; MOST_WIDTH], owner: &[u8; MOST_WIDTH], free: u64, ports: u64) -> usize
+    requires { ⌜ (ports ≡ 0 → ⊥) × (length (now edges) ≡ mostWidth) × (length (now owner) ≡ mostWidth) ⌝ }
+    requires { ⌜ ((k : ℕ) → k ∈ ports → getD (now owner) k 0 < mostWidth) ⌝ }
+    ensures { λ r. ⌜ (r < mostWidth) × (r ∈ ports) ⌝ }
+{
+    let mut rest = ports;
+    while rest != 0 {
+        let port = lowest(rest);
+        let rival = owner[port] as usize;
+        if edges[rival] & free != 0 {
+            return port;
+        }
+        rest = tail(rest);
+    }
+    lowest(ports)
 }
 
 // Finds a port for a bank: a free one, or else an unseen one whose owner finds another. The width w stands in the contract alone.
@@ -44,7 +64,7 @@ pub fn augment(
     }
     let mut left = unseen;
     while ports & left != 0 {
-        let port = lowest(ports & left);
+        let port = nearest(edges, owner, free, ports & left);
         let rival = owner[port] as usize;
         match augment(edges, owner, free, without(left, port), rival) {
             Search::Found(end) => {

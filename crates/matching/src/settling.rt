@@ -10,7 +10,7 @@ ghost use Rattle.matching.specs.Graph.{Edge};
 ghost use Rattle.matching.specs.Matching.{Completes, unowned};
 ghost use Rattle.matching.specs.First.{keyAt, keyCount, Foremost};
 ghost use Rattle.matching.specs.inner.Ranking.{many, Ranks, Ranked};
-ghost use Rattle.matching.specs.inner.Settling.{Seating, Keeping, Placed, Settling, Settled};
+ghost use Rattle.matching.specs.inner.Settling.{Seating, Seats, Unseated, Preferred, Keeping, Placed, Settling, Settled};
 use crate::Completed;
 use crate::FREE;
 use crate::KEYS;
@@ -24,6 +24,8 @@ use places::Layout;
 use places::PLACES;
 use sets::below;
 use sets::lowest;
+use sets::member_of;
+use sets::minus;
 use sets::tail;
 use sets::with;
 use sets::without;
@@ -38,6 +40,12 @@ struct Rest {
 struct Kept {
     banks: usize,
     vacant: u64,
+}
+
+// A bank's seat, and the ports that are the seat of no bank up to it.
+struct OwnSeat {
+    port: usize,
+    unseated: u64,
 }
 
 // The port of least key in a set that is not empty. The key of a bank and port k stands at bank * 64 + k.
@@ -62,7 +70,7 @@ fn least_key(ports: u64, keys: &[u16; KEYS], bank: usize) -> usize
     best
 }
 
-// The port of least key in a set of a bank's ports that is not empty. Where many may be in it, the words that are left are looked at and not the keys.
+// The port of least key in a set of a bank's ports that is not empty. Where many may be in it, the words that are left are looked at first.
 fn least(
     ports: u64,
     keys: &[u16; KEYS],
@@ -77,9 +85,35 @@ fn least(
         × ((k : ℕ) → k ∈ ports → keyAt (now (keys .entry)) bank r ≤ keyAt (now (keys .entry)) bank k) ⌝ }
 {
     if bank + MANY < layout.width {
-        return scan(ports, bank, layout, images, places);
+        let port = scan(ports, bank, layout, images, places);
+        if port < MOST_WIDTH {
+            return port;
+        }
     }
     least_key(ports, keys, bank)
+}
+
+// The same of a bank that was seated or idle. Where its seat is in the set, no unseated port has a lesser key: so only the seat and the ports
+// of earlier seats are compared.
+fn choose(
+    ports: u64,
+    keys: &[u16; KEYS],
+    bank: usize,
+    layout: Layout,
+    images: &[u16],
+    places: &[u64; PLACES],
+    seat: OwnSeat,
+) -> usize
+    requires { ⌜ (ports ≡ 0 → ⊥) × (bank < layout .width) × Laid layout × (length (now keys) ≡ keyCount) × (length (now places) ≡ placeCount) ⌝ }
+    requires { ⌜ (many < layout .width → Ranks (now keys) bank ports layout (now images) (now places)) ⌝ }
+    requires { ⌜ Preferred (λ k. k ∈ ports) (now keys) bank (seat .port) (seat .unseated) ⌝ }
+    ensures { λ r. ⌜ (r < mostWidth) × (r ∈ ports)
+        × ((k : ℕ) → k ∈ ports → keyAt (now (keys .entry)) bank r ≤ keyAt (now (keys .entry)) bank k) ⌝ }
+{
+    if member_of(ports, seat.port) == 1 {
+        return least_key(minus(ports, seat.unseated), keys, bank);
+    }
+    least(ports, keys, bank, layout, images, places)
 }
 
 // Each bank in turn takes the port of least key among those that are free, its seat; a bank to which none is free stays idle. This is only a
@@ -95,7 +129,7 @@ fn seat(
 ) -> Rest
     requires { ⌜ Laid layout × (length (now edges) ≡ mostWidth) × (length (now keys) ≡ keyCount) × (length (now places) ≡ placeCount) ⌝ }
     requires { ⌜ (length (now owner) ≡ mostWidth) × (length (now seats) ≡ mostWidth) × Ranked (now edges) (now keys) layout (now images) (now places) ⌝ }
-    requires { ⌜ ((k : ℕ) → k < layout .width → getD (now owner) k 0 ≡ unowned) ⌝ }
+    requires { ⌜ ((k : ℕ) → k < layout .width → getD (now owner) k 0 ≡ unowned) × ((d : ℕ) → d < layout .width → getD (now seats) d 0 < mostWidth) ⌝ }
     ensures { λ r. ⌜ Seating (Edge (now (edges .entry))) (layout .width) (now (keys .entry)) (now (owner .exit)) (now (seats .exit))
         (layout .width) (r .free) (r .idle) ⌝ }
 {
@@ -167,10 +201,12 @@ fn settle_bank(
     owner: &mut [u8; MOST_WIDTH],
     vacant: u64,
     bank: usize,
+    seat: OwnSeat,
 ) -> usize
     requires { ⌜ (length (now edges) ≡ mostWidth) × (length (now keys) ≡ keyCount) × (length (now owner) ≡ mostWidth) ⌝ }
     requires { ⌜ Laid layout × (length (now places) ≡ placeCount) × (bank < layout .width) × ((k : ℕ) → k ∈ vacant → k < layout .width)
-        × Ranked (now edges) (now keys) layout (now images) (now places) ⌝ }
+        × Ranked (now edges) (now keys) layout (now images) (now places)
+        × Preferred (Edge (now edges) bank) (now keys) bank (seat .port) (seat .unseated) ⌝ }
     requires { ⌜ ((w : ℕ) × Settling (Edge (now edges)) w (now owner) bank vacant vacant) ⌝ }
     ensures { λ r. ⌜ ((w : ℕ) → Settling (Edge (now (edges .entry))) w (now (owner .entry)) bank vacant vacant
         → Settled (Edge (now (edges .entry))) w (now (keys .entry)) (now (owner .entry)) bank vacant (now (owner .exit)) r) ⌝ }
@@ -179,7 +215,7 @@ fn settle_bank(
     let mut hopeful = vacant;
     loop {
         let ports = edges[bank] & hopeful;
-        let port = least(ports, keys, bank, layout, images, places);
+        let port = choose(ports, keys, bank, layout, images, places, seat);
         let rival = owner[port];
         if rival == own {
             return port;
@@ -207,19 +243,36 @@ fn settle(
     images: &[u16],
     places: &[u64; PLACES],
     owner: &mut [u8; MOST_WIDTH],
+    seats: &[u8; MOST_WIDTH],
     kept: Kept,
 )
     requires { ⌜ (length (now edges) ≡ mostWidth) × (length (now keys) ≡ keyCount) × Laid layout × (length (now places) ≡ placeCount) ⌝ }
-    requires { ⌜ Ranked (now edges) (now keys) layout (now images) (now places) ⌝ }
+    requires { ⌜ Ranked (now edges) (now keys) layout (now images) (now places)
+        × Seats (Edge (now edges)) (layout .width) (now keys) (now seats) (layout .width)
+        × Unseated (layout .width) (now seats) (kept .banks) (kept .vacant) ⌝ }
     requires { ⌜ Placed (Edge (now edges)) (layout .width) (now keys) (now owner) (kept .banks) (kept .vacant) ⌝ }
     ensures { λ _. ⌜ (length (now (owner .exit)) ≡ mostWidth)
         × Foremost (Edge (now (edges .entry))) (layout .width) (now (keys .entry)) (now (owner .exit)) ⌝ }
 {
     let width = layout.width;
     let mut vacant = kept.vacant;
+    let mut unseated = kept.vacant;
     let mut bank = kept.banks;
     while bank < width {
-        let port = settle_bank(edges, keys, layout, images, places, owner, vacant, bank);
+        let port = seats[bank] as usize;
+        unseated = minus(unseated, with(0, port, 1));
+        let seat = OwnSeat { port, unseated };
+        let port = settle_bank(
+            edges,
+            keys,
+            layout,
+            images,
+            places,
+            owner,
+            vacant,
+            bank,
+            seat,
+        );
         vacant = without(vacant, port);
         bank += 1;
     }
@@ -251,7 +304,7 @@ pub fn first(
         Completed::Stuck(bank, reached) => Completed::Stuck(bank, reached),
         Completed::Matched => {
             let kept = keep(owner, &seats, width, lowest(rest.idle));
-            settle(edges, keys, layout, images, places, owner, kept);
+            settle(edges, keys, layout, images, places, owner, &seats, kept);
             Completed::Matched
         }
     }

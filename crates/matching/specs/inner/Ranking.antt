@@ -33,8 +33,9 @@ Ranked edges keys layout images places =
     many < layout .width → (b ports : ℕ) → b < layout .width → ((k : ℕ) → k ∈ ports → (k < layout .width) × Edge edges b k)
     → Ranks keys b ports layout images places
 
--- the first of the places in `rest`, which stand from word `from` on, whose port is in the set: its port, or 64 where there is none
+-- the first of the places in `rest`, which stand from word `from` on, whose port is in the set: its port, or 64 where there is none. Where it is more,
+-- the search was given up
 pub record FirstPort (ports rest from w : ℕ) (images : List ℕ) (r : ℕ) : Type 0 where
   pub found : r < mostWidth → (j : ℕ) × (j < 64) × (j ∈ rest) × (r ≡ portOf w images (from + j * w)) × (r ∈ ports)
       × ((i : ℕ) → i ∈ rest → i < j → portOf w images (from + i * w) ∈ ports → ⊥)
-  pub none : mostWidth ≤ r → (i : ℕ) → i ∈ rest → portOf w images (from + i * w) ∈ ports → ⊥
+  pub none : r ≡ mostWidth → (i : ℕ) → i ∈ rest → portOf w images (from + i * w) ∈ ports → ⊥

@@ -1,8 +1,10 @@
 -- `first` meets its contract: the start is the first matching where no bank is idle; else it is completed, and bank after bank is settled.
 use Prim.Native.Nat.{ℕ, _<_}
-use mathlib.Core.Path.{_≡_, subst}
+use mathlib.Core.Path.{_≡_, refl, subst}
 use mathlib.Core.List.{List}
 use native.Mathlib.Omega.{arith}
+use lib.ListN.{getD-replicate}
+use Rattle.limits.specs.Limits.{mostWidth}
 use Rattle.sets.specs.Set.{_∈_}
 use Rattle.matching.specs.Matching.{Concluded, Completes}
 use Rattle.matching.specs.declared.Completed.{Completed}
@@ -13,7 +15,14 @@ use Rattle.matching.proofs.settling.first.Statement.{statement}
 use Rattle.matching.proofs.settling.first.Tie as tie
 
 seat-requires : tie.Need-seat-requires
-seat-requires c κs = search needs
+seat-requires c κs =
+    let s = c .before .before .before in (
+      (s .pre .0 .0, s .pre .0 .1, s .pre .0 .2, s .pre .0 .3),
+      (
+        (s .pre .1 .0 .0, refl, s .pre .1 .0 .1),
+        (s .pre .1 .1, λ d l. omega (arith, getD-replicate {A = ℕ} mostWidth d 0 0 (omega (arith, l, s .pre .0 .0 .few)))),
+      ),
+    )
 
 returns : tie.Need-returns
 returns c =
@@ -63,21 +72,22 @@ keep-requires c κs =
     let s = start e in
     let S = seated e .seat .ensures in
     let B = busy c in (
-      (s .pre .0 .0 .few, omega (arith, B .0), e .complete .ensures .long, S .seats-long),
+      (s .pre .0 .0 .few, omega (arith, B .0), e .complete .ensures .long, S .in-turn .long),
       λ b l. S .seats-owned b (omega (arith, B .0)) (B .1 b l) .0,
     )
 
 settle-requires : tie.Need-settle-requires
 settle-requires c κs =
-    let k = c .before in
+    let k = c .before .before in
     let e = completed (k .before) in
     let s = start e in
+    let S = seated e .seat .ensures in
     let B = busy (k .before) in
     let P = matched (e .complete .ensures) (k .before .before .before .before .enum-told .given .1) in (
       (s .pre .0 .1, s .pre .0 .2, s .pre .0 .0, s .pre .0 .3),
       (
-        s .pre .1 .0 .1,
-        seating-kept (s .pre .0 .0 .few) (seated e .seat .ensures) (e .complete .ensures .long) P (omega (arith, B .0)) (B .1) (k .keep .ensures),
+        (s .pre .1 .0 .1, S .in-turn, k .keep .ensures .opened),
+        seating-kept (s .pre .0 .0 .few) S (e .complete .ensures .long) P (omega (arith, B .0)) (B .1) (k .keep .ensures),
       ),
     )
 

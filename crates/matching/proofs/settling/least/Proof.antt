@@ -1,4 +1,4 @@
--- `settling::least` meets its contract: both ways find the port of least key.
+-- `settling::least` meets its contract: both ways find the port of least key, and where the first is given up, the second is gone.
 use native.Mathlib.Omega.{arith}
 use borrow.Author.Needs.{needs}
 use Rattle.matching.proofs.settling.least.Statement.{statement}
@@ -10,12 +10,14 @@ add-if1 c = let s = c .before in omega (arith, s .pre .0 .1, s .pre .0 .2 .few)
 scan-requires : tie.Need-scan-requires
 scan-requires c κs =
     let s = c .before .before .before in
-    ((s .pre .0 .0, s .pre .0 .1, s .pre .0 .2, s .pre .0 .4), (_, s .pre .1 (omega (arith, c .if1 .taken))))
+    ((s .pre .0 .1, s .pre .0 .2, s .pre .0 .4), (_, s .pre .1 (omega (arith, c .if1 .taken))))
 
 returns : tie.Need-returns
 returns c =
-    let s = c .before .before .before .before in
-    c .scan .ensures _ (s .pre .1 (omega (arith, c .before .if1 .taken)))
+    let f = c .before in
+    let s = f .before .before .before .before in
+    let r = f .scan .ensures _ (s .pre .1 (omega (arith, f .before .if1 .taken))) (c .if2 .taken) in
+    (c .if2 .taken, r .0, r .1)
 
 least-key-requires : tie.Need-least-key-requires
 least-key-requires c κs =

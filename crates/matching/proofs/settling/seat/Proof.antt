@@ -7,7 +7,7 @@ use lib.ListN.{getD}
 use Rattle.sets.specs.Set.{_∈_}
 use Rattle.matching.specs.Graph.{Edge}
 use Rattle.matching.specs.inner.Settling.{Seating}
-use Rattle.sets.proofs.Members.{and-in, in-and}
+use Rattle.sets.proofs.Members.{and-in, and-none, in-and}
 use Rattle.matching.proofs.Seats.{seating-none, seating-idle, seating-more}
 use borrow.Author.Needs.{needs}
 use Rattle.matching.proofs.settling.seat.Statement.{statement}
@@ -24,7 +24,7 @@ below-requires : tie.Need-below-requires Inv-loop μ-loop
 below-requires c κs = search needs
 
 loop-holds : tie.Need-loop-holds Inv-loop μ-loop
-loop-holds c = let p = c .before .before .pre in (omega arith, seating-none (p .0 .0 .few) (p .1 .0 .0) (p .1 .0 .1) (p .1 .1) (c .below .ensures))
+loop-holds c = let p = c .before .before .pre in (omega arith, seating-none (p .0 .0 .few) (p .1 .0 .0) (p .1 .0 .1) (p .1 .1 .0) (p .1 .1 .1) (c .below .ensures))
 
 mul-ports : tie.Need-mul-ports Inv-loop μ-loop
 mul-ports c = search needs
@@ -81,7 +81,11 @@ loop-again c =
     let l = c .before .before .before .loop in
     let q = c .before .before .loop-test .taken in
     ⊎-elim
-    (λ x. rw (x .2, x .3, x .4, x .5) (omega (arith, q), seating-idle (s .pre .0 .0 .few) q (l .inv .1) (x .1 .ensures)))
+    (λ x. rw (x .2, x .3, x .4, x .5) (
+      omega (arith, q),
+      seating-idle (s .pre .0 .0 .few) q (l .inv .1)
+          (and-none (getD (s .args .edges .now) (l .bank) 0) (l .free) (x .0 .taken)) (x .1 .ensures),
+    ))
     (λ x.
     let h = free-port (record { before = record { before = c .before; if1 = x .0 }; least = x .1 }) in
     rw (x .3, x .4, x .5, x .6) (

@@ -20,22 +20,22 @@ use Rattle.matching.proofs.settling.settle_bank.Statement.{statement}
 use Rattle.matching.proofs.settling.settle_bank.Tie as tie
 
 abbrev Inv-loop : tie.InvT-loop
-Inv-loop edges keys layout images places owner₀ vacant bank own hopeful₀ owner hopeful =
+Inv-loop edges keys layout images places owner₀ vacant bank seat own hopeful₀ owner hopeful =
     (owner ≡ owner₀) × ((w : ℕ) → Settling (Edge edges) w owner₀ bank vacant vacant → Settling (Edge edges) w owner bank vacant hopeful)
 
 abbrev μ-loop : tie.MeasureT-loop
-μ-loop edges keys layout images places owner₀ vacant bank own hopeful₀ owner hopeful = sum mostWidth (member hopeful)
+μ-loop edges keys layout images places owner₀ vacant bank seat own hopeful₀ owner hopeful = sum mostWidth (member hopeful)
 
 -- ---- the places
 
-abbrev at : tie.After-least Inv-loop μ-loop → tie.At-loop Inv-loop μ-loop
+abbrev at : tie.After-choose Inv-loop μ-loop → tie.At-loop Inv-loop μ-loop
 at d = d .before .before
 
-abbrev start : tie.After-least Inv-loop μ-loop → tie.Start Inv-loop μ-loop
+abbrev start : tie.After-choose Inv-loop μ-loop → tie.Start Inv-loop μ-loop
 start d = d .before .before .before .before
 
-abbrev least-of : tie.After-port-of Inv-loop μ-loop → tie.After-least Inv-loop μ-loop
-least-of c = c .before .before .before .before
+abbrev choice : tie.After-port-of Inv-loop μ-loop → tie.After-choose Inv-loop μ-loop
+choice c = c .before .before .before .before
 
 -- ---- the facts
 
@@ -50,44 +50,44 @@ hopes a = a .loop .inv .1
 long : (a : tie.At-loop Inv-loop μ-loop) → length (a .loop .owner) ≡ mostWidth
 long a = ap (λ (x : List ℕ). length x) (a .loop .inv .0) ∙ a .before .before .pre .0 .2
 
-abbrev port : tie.After-least Inv-loop μ-loop → ℕ
-port d = d .least .result
+abbrev port : tie.After-choose Inv-loop μ-loop → ℕ
+port d = d .choose .result
 
 -- what the bank wants
-wanted : (d : tie.After-least Inv-loop μ-loop)
+wanted : (d : tie.After-choose Inv-loop μ-loop)
     → Wanted (Edge (start d .args .edges .now)) (start d .args .keys .now) (start d .args .bank) (at d .loop .hopeful) (port d)
 wanted d =
     let ports : ℕ = getD (start d .args .edges .now) (start d .args .bank) 0 in
-    let h = and-in ports (at d .loop .hopeful) (port d) (d .least .ensures .1) in
-    record { edge = h .0; inside = h .1; least = λ k e f. d .least .ensures .2 k (in-and ports (at d .loop .hopeful) k e f) }
+    let h = and-in ports (at d .loop .hopeful) (port d) (d .choose .ensures .1) in
+    record { edge = h .0; inside = h .1; least = λ k e f. d .choose .ensures .2 k (in-and ports (at d .loop .hopeful) k e f) }
 
 few : (s : tie.Start Inv-loop μ-loop) → s .pre .1 .1 .0 ≤ mostWidth
 few s = s .pre .1 .1 .1 .few
 
 -- the bank's own port
-held-in : (c : tie.After-port-of Inv-loop μ-loop) {w : ℕ} → Given (start (least-of c)) w
-    → (c .port-of .result < w) × (getD (at (least-of c) .loop .owner) (c .port-of .result) 0 ≡ start (least-of c) .args .bank)
-    × (c .port-of .result ∈ at (least-of c) .loop .hopeful)
+held-in : (c : tie.After-port-of Inv-loop μ-loop) {w : ℕ} → Given (start (choice c)) w
+    → (c .port-of .result < w) × (getD (at (choice c) .loop .owner) (c .port-of .result) 0 ≡ start (choice c) .args .bank)
+    × (c .port-of .result ∈ at (choice c) .loop .hopeful)
 held-in c {w} G =
-    let d = least-of c in
+    let d = choice c in
     let S = hopes (at d) w G in
     let ports : ℕ = getD (start d .args .edges .now) (start d .args .bank) 0 in
     let h = and-in ports (at d .loop .hopeful) (c .port-of .result) (c .port-of .ensures .0) .1 in
     (S .opened .inside (c .port-of .result) (S .fewer (c .port-of .result) h) .0, c .port-of .ensures .1, h)
 
 held-few : (c : tie.After-port-of Inv-loop μ-loop) → c .port-of .result < mostWidth
-held-few c = let s = start (least-of c) in omega (arith, held-in c (s .pre .1 .1 .1) .0, few s)
+held-few c = let s = start (choice c) in omega (arith, held-in c (s .pre .1 .1 .1) .0, few s)
 
-port-held : (c : tie.After-port-of Inv-loop μ-loop) → port (least-of c) ≡ c .port-of .result → ⊥
+port-held : (c : tie.After-port-of Inv-loop μ-loop) → port (choice c) ≡ c .port-of .result → ⊥
 port-held c e =
-    c .before .before .if1 .left (ap (λ (k : ℕ). getD (at (least-of c) .loop .owner) k 0) e ∙ c .port-of .ensures .1)
+    c .before .before .if1 .left (ap (λ (k : ℕ). getD (at (choice c) .loop .owner) k 0) e ∙ c .port-of .ensures .1)
 
 -- the search from the port's owner, and what it answers
 abbrev held-of : tie.After-with Inv-loop μ-loop → tie.After-port-of Inv-loop μ-loop
 held-of a = a .before .before .before .before
 
 trial : (a : tie.After-with Inv-loop μ-loop) {w : ℕ}
-    → let d = least-of (held-of a) in
+    → let d = choice (held-of a) in
     Given (start d) w
     → Trial w (at d .loop .owner) (start d .args .bank) (at d .loop .hopeful) (port d) (held-of a .port-of .result)
     (a .before .before .without2 .result) (a .with .result)
@@ -95,7 +95,7 @@ trial a G =
     let q = held-of a in
     let h = held-in q G in
     record {
-      long = long (at (least-of q));
+      long = long (at (choice q));
       other = q .before .before .if1 .left;
       below = h .0;
       own = h .1;
@@ -106,19 +106,19 @@ trial a G =
     }
 
 abbrev tried : tie.After-with Inv-loop μ-loop → List ℕ
-tried a = let d = least-of (held-of a) in set (set (at d .loop .owner) (port d) (start d .args .bank)) (held-of a .port-of .result) unowned
+tried a = let d = choice (held-of a) in set (set (at d .loop .owner) (port d) (start d .args .bank)) (held-of a .port-of .result) unowned
 
 abbrev rival : tie.After-with Inv-loop μ-loop → ℕ
-rival a = let d = least-of (held-of a) in getD (at d .loop .owner) (port d) 0
+rival a = let d = choice (held-of a) in getD (at d .loop .owner) (port d) 0
 
 ready : (a : tie.After-with Inv-loop μ-loop) (w : ℕ)
-    → let d = least-of (held-of a) in
+    → let d = choice (held-of a) in
     Given (start d) w → Ready (Edge (start d .args .edges .now)) w (tried a) (a .with .result) (a .before .before .without2 .result) (rival a)
-ready a w G = let d = least-of (held-of a) in candidate-ready (hopes (at d) w G) (wanted d) (trial a G)
+ready a w G = let d = choice (held-of a) in candidate-ready (hopes (at d) w G) (wanted d) (trial a G)
 
 answer : (c : tie.After-augment Inv-loop μ-loop) (w : ℕ)
     → let a = c .before in
-    let d = least-of (held-of a) in
+    let d = choice (held-of a) in
     Given (start d) w
     → Searched (Edge (start d .args .edges .now)) w (tried a) (a .with .result) (a .before .before .without2 .result) (rival a)
     (c .augment .last .1 .0) (c .augment .result)
@@ -127,7 +127,7 @@ answer c w G = c .augment .ensures w (ready (c .before) w G)
 lost : (c : tie.After-known-told Inv-loop μ-loop) (w : ℕ)
     → let e = c .before .before .before in
     let a = e .before in
-    let d = least-of (held-of a) in
+    let d = choice (held-of a) in
     Given (start d) w
     → Failed (Edge (start d .args .edges .now)) w (tried a) (a .before .before .without2 .result) (rival a) (e .augment .last .1 .0)
     (c .before .left .given .0 .0)
@@ -145,21 +145,29 @@ mul-ports c = search needs
 element-copy-out-ports : tie.Need-element-copy-out-ports Inv-loop μ-loop
 element-copy-out-ports c = search needs
 
-least-requires : tie.Need-least-requires Inv-loop μ-loop
-least-requires c κs =
+choose-requires : tie.Need-choose-requires Inv-loop μ-loop
+choose-requires c κs =
     let s = c .before .before .before in
     let S = hopes (c .before) (s .pre .1 .1 .0) (s .pre .1 .1 .1) in
-    let o = own-port S in (
+    let o = own-port S in
+    let edges : ℕ = getD (s .args .edges .now) (s .args .bank) 0 in
+    let seat = s .pre .1 .0 .5 in (
       (
-        λ e. and-none (getD (s .args .edges .now) (s .args .bank) 0) (c .before .loop .hopeful) e (o .0) (o .4) (o .3),
+        λ e. and-none edges (c .before .loop .hopeful) e (o .0) (o .4) (o .3),
         s .pre .1 .0 .2,
         s .pre .1 .0 .0,
         s .pre .0 .1,
         s .pre .1 .0 .1,
       ),
-      λ m. s .pre .1 .0 .4 m (s .args .bank) _ (s .pre .1 .0 .2) (λ k h.
-          let both = and-in (getD (s .args .edges .now) (s .args .bank) 0) (c .before .loop .hopeful) k h in
-          (s .pre .1 .0 .3 k (S .fewer k (both .1)), both .0)),
+      (
+        λ m. s .pre .1 .0 .4 m (s .args .bank) _ (s .pre .1 .0 .2) (λ k h.
+            let both = and-in edges (c .before .loop .hopeful) k h in (s .pre .1 .0 .3 k (S .fewer k (both .1)), both .0)),
+        record {
+          few = seat .few;
+          gone = seat .gone;
+          least = λ k h u. seat .least k (and-in edges (c .before .loop .hopeful) k h .0) u;
+        },
+      ),
     )
 
 element-copy-out-rival : tie.Need-element-copy-out-rival Inv-loop μ-loop
@@ -182,13 +190,13 @@ port-of-requires c κs =
     (long (at d), (o .0, in-and ports (at d .loop .hopeful) (o .0) (o .4) (o .3), o .2))
 
 without-requires : tie.Need-without-requires Inv-loop μ-loop
-without-requires c κs = let s = start (least-of c) in let h = held-in c (s .pre .1 .1 .1) in (omega (arith, h .0, few s), h .2)
+without-requires c κs = let s = start (choice c) in let h = held-in c (s .pre .1 .1 .1) in (omega (arith, h .0, few s), h .2)
 
 without-requires-2 : tie.Need-without-requires-2 Inv-loop μ-loop
 without-requires-2 c κs =
     let q = c .before in
-    let d = least-of q in
-    (d .least .ensures .0, without-kept (c .without .ensures) (port d) (wanted d .inside) (port-held q))
+    let d = choice q in
+    (d .choose .ensures .0, without-kept (c .without .ensures) (port d) (wanted d .inside) (port-held q))
 
 element-write-owner : tie.Need-element-write-owner Inv-loop μ-loop
 element-write-owner c = search needs
@@ -201,12 +209,12 @@ with-requires c κs = (held-few (c .before .before .before), omega arith)
 
 cast-augment : tie.Need-cast-augment Inv-loop μ-loop
 cast-augment c =
-    let d = least-of (held-of c) in
+    let d = choice (held-of c) in
     let S = hopes (at d) _ (start d .pre .1 .1 .1) in
     omega (arith, S .perfect .permutes .below (port d) (S .opened .inside (port d) (S .fewer (port d) (wanted d .inside)) .0), S .few)
 
 augment-requires : tie.Need-augment-requires Inv-loop μ-loop
-augment-requires c κs = let s = start (least-of (held-of c)) in (s .pre .0 .0, (s .pre .1 .1 .0, ready c (s .pre .1 .1 .0) (s .pre .1 .1 .1)))
+augment-requires c κs = let s = start (choice (held-of c)) in (s .pre .0 .0, (s .pre .1 .1 .0, ready c (s .pre .1 .1 .0) (s .pre .1 .1 .1)))
 
 enum-told : tie.Need-enum-told Inv-loop μ-loop
 enum-told c = search needs
@@ -214,7 +222,7 @@ enum-told c = search needs
 returns-2 : tie.Need-returns-2 Inv-loop μ-loop
 returns-2 c = λ w G.
     let a = c .before .before .before in
-    let d = least-of (held-of a) in
+    let d = choice (held-of a) in
     let A = rw (c .enum-told .given .1) at (answer (c .before .before) w G) in
     subst (λ (x : List ℕ). Settled (Edge (start d .args .edges .now)) w (start d .args .keys .now) x (start d .args .bank)
     (start d .args .vacant) (c .before .before .augment .last .1 .0) (port d))
@@ -235,14 +243,14 @@ with-requires-2 c κs = (held-few (held-of (c .before .before .before .before)),
 loop-less : tie.Need-loop-less Inv-loop μ-loop
 loop-less c =
     let a = c .before .before .before .before .before in
-    let d = least-of (held-of a) in
+    let d = choice (held-of a) in
     let G = start d .pre .1 .1 .1 in
     hopeful-less (hopes (at d) _ G) (wanted d) (trial a G) (lost (c .before) _ G) (c .with2 .ensures)
 
 loop-again : tie.Need-loop-again Inv-loop μ-loop
 loop-again c =
     let a = c .before .before .before .before .before in
-    let d = least-of (held-of a) in
+    let d = choice (held-of a) in
     let G = start d .pre .1 .1 .1 in
     let back = restored (hopes (at d) _ G) (wanted d) (trial a G) (lost (c .before) _ G) in (
       back ∙ at d .loop .inv .0,
@@ -260,7 +268,7 @@ settle-bank-spec =
     loop-holds
     mul-ports
     element-copy-out-ports
-    least-requires
+    choose-requires
     element-copy-out-rival
     returns
     port-of-requires
