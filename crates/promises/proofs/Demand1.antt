@@ -33,7 +33,8 @@ use Rattle.tables.proofs.SetBits.{length-setOf}
 use Rattle.tables.proofs.Form.{form-words, form-width, opened-form}
 use Rattle.reading.proofs.Exact.{read-cases}
 use Rattle.generator.specs.Generating.{Generates, generationReply}
-use Rattle.generator.proofs.Checking.{checks-passed, generate-cases}
+use Rattle.request.proofs.Checking.{checks-passed}
+use Rattle.generator.proofs.Ends.{generate-cases}
 use Rattle.generator.specs.declared.Generation.{Generation}
 use Rattle.machine.specs.Step.{leaving, moving, entering, nextClock, movedCrossings, advanceOf, saysOf, StepOutcome, stepOutcome, accepted as stepAccepted, stepOf}
 use Rattle.machine.specs.Machine.{clockAfter, advanceValues, stepReply}

@@ -18,9 +18,10 @@ use Rattle.reading.specs.declared.Reading.the-variants.{Read, Refused}
 use Rattle.tables.proofs.Form.{form-opened, opened-form, setOf-form}
 use Rattle.tables.proofs.Performs.{performs-unique}
 use Rattle.reading.proofs.Exact.{read-cases, read-exact, generated-reads}
-use Rattle.generator.specs.Generating.{Generable, Generates}
+use Rattle.request.specs.Request.{Generable}
+use Rattle.generator.specs.Generating.{Generates}
 use Rattle.generator.specs.declared.Generation.{Generation}
-use Rattle.generator.proofs.Checking.{passed-checks, generable-dims, generable-permutes}
+use Rattle.request.proofs.Checking.{passed-checks, generable-dims, generable-permutes}
 use Rattle.promises.specs.Demand2.{told, toldOf, ReadsAs, Refuses, Lent, Exact, Answered, Reading}
 use Rattle.promises.proofs.Demand3.{front}
 

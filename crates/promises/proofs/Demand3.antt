@@ -20,7 +20,7 @@ use Rattle.machine.specs.Plain.{plain, empty}
 use Rattle.machine.proofs.LentClock.{lent-run}
 use Rattle.machine.proofs.Theorem.{machine-is-plain, generated-is-plain}
 use Rattle.generator.specs.Generating.{Filled, generationReply}
-use Rattle.generator.proofs.Checking.{passed-checks, generable-dims, generable-permutes}
+use Rattle.request.proofs.Checking.{passed-checks, generable-dims, generable-permutes}
 use Rattle.rughtena.specs.Answers.{clockOf}
 use Rattle.rughtena.specs.Step.{exportedMachine}
 use Rattle.rughtena.proofs.Device.{Beside, exported-run}

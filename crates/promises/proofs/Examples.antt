@@ -24,9 +24,10 @@ use Rattle.tables.specs.Datapath.{carriedTo, target, readStrays, carryStrays, w
 use Rattle.tables.specs.Generated.{wordOf, portOf, writeOf, lineOf, setBits, setOf}
 use Rattle.tables.specs.FirstTest.{portAt, barred, tried, finishes, misses, firstTest}
 use Rattle.reading.specs.Reading.{readFault, writeFault, scanLines, readLines, readOpened, readOf, readingReply}
-use Rattle.generator.specs.Generating.{scratchNeed, lentTest, checksOf, Generates, generationReply}
+use Rattle.request.specs.Request.{scratchNeed, lentTest, checksOf}
+use Rattle.generator.specs.Generating.{Generates, generationReply}
 use Rattle.generator.specs.declared.Generation.{Generation}
-use Rattle.generator.proofs.Checking.{generate-cases}
+use Rattle.generator.proofs.Ends.{generate-cases}
 use Rattle.machine.specs.Devices.{run}
 use Rattle.machine.specs.Step.{spot, fresh, nextFrame, nextClock, leaving, moving, entering, movedCrossings, advanceOf, saysOf, accepted, bufferTest, clockTest, lineTest, stepLine, stepOpened, stepOf}
 use Rattle.machine.specs.Machine.{said, clockAfter, carded, machine, advanceValues, stepReply}

@@ -17,9 +17,11 @@ use Rattle.images.proofs.Orders.{order-listed, order-kept, order-permutes, orde
 use Rattle.tables.specs.Terms.{Limited, cycles, fileLength, padded}
 use Rattle.tables.proofs.Padded.{padded-above, padded-even, padded-least, padded-same}
 use Rattle.reading.specs.Reading.{readOf}
-use Rattle.generator.specs.Generating.{Generable, Generates, generationReply}
+use Rattle.request.specs.Request.{Generable}
+use Rattle.generator.specs.Generating.{Generates, generationReply}
 use Rattle.generator.specs.declared.Generation.{Generation}
-use Rattle.generator.proofs.Checking.{three-longer, longer-three, generate-cases}
+use Rattle.request.proofs.Checking.{three-longer, longer-three}
+use Rattle.generator.proofs.Ends.{generate-cases}
 use Rattle.promises.specs.Demand2.{told, toldOf, Lent}
 use Rattle.promises.specs.Plain.{Given}
 use Rattle.promises.specs.Extended.{Extending}

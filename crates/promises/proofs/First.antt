@@ -24,7 +24,7 @@ use Rattle.tables.proofs.Firsts.{first-unique, first-same, first-set, first-of-
 use Rattle.tables.proofs.FirstTests.{test-first}
 use Rattle.reading.specs.Reading.{readOf}
 use Rattle.generator.specs.Generating.{Filled}
-use Rattle.generator.proofs.Checking.{passed-checks, generable-dims, generable-permutes}
+use Rattle.request.proofs.Checking.{passed-checks, generable-dims, generable-permutes}
 use Rattle.promises.specs.Demand2.{ReadsAs}
 use Rattle.promises.specs.Questions.{making, bytes, answer, listed}
 use Rattle.promises.specs.First.{Call, SameSet}

@@ -29,7 +29,7 @@ use Rattle.machine.specs.Plain.{Row, empty, given, took, turned, plain}
 use Rattle.machine.proofs.Runs.{reached, run-append}
 use Rattle.generator.specs.Generating.{generationReply}
 use Rattle.generator.specs.declared.Generation.{Generation}
-use Rattle.generator.proofs.Checking.{passed-checks}
+use Rattle.request.proofs.Checking.{passed-checks}
 use Rattle.promises.specs.Demand2.{Reader, told, toldOf, ReadsAs, Refuses, Lent, Exact}
 use Rattle.promises.specs.Idle.{Generated, WrittenLength, IsPlain, acceptedStep, acceptedSteps, enters, fills, gives, frames, shown, Thrown}
 use Rattle.promises.proofs.Demand2.{demand-2}

@@ -41,7 +41,7 @@ use Rattle.tables.specs.Generated.{portOf as wantedPort, Schedule, setOf}
 use Rattle.tables.proofs.Dims.{depth-reaches}
 use Rattle.tables.proofs.SetBits.{switchesOf as packedSwitches, length-switches}
 use Rattle.tables.proofs.ReadsBack.{ports-permute, switchBit-setOf, source-setOf}
-use Rattle.generator.proofs.Checking.{passed-checks, generable-dims, generable-permutes}
+use Rattle.request.proofs.Checking.{passed-checks, generable-dims, generable-permutes}
 use Rattle.promises.specs.Rule.{portOf, switchesOf, LineByRule, GeneratedByRule, ByRule}
 use Rattle.promises.proofs.Demand3.{front}
 

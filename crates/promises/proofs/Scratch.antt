@@ -13,9 +13,11 @@ use Rattle.refusal.specs.declared.Refusal.the-variants.{BufferShort}
 use Rattle.images.specs.Images.{orderOf}
 use Rattle.tables.specs.Terms.{Limited, fileLength, padded}
 use Rattle.tables.proofs.Firsts.{first-set}
-use Rattle.generator.specs.Generating.{scratchNeed, Generable, checksOf, generationReply}
+use Rattle.request.specs.Request.{scratchNeed, Generable, checksOf}
+use Rattle.generator.specs.Generating.{generationReply}
 use Rattle.generator.specs.declared.Generation.the-variants.{Refused as Unmade}
-use Rattle.generator.proofs.Checking.{checks-passed, passed-checks, generable-dims, scratch-short, scratch-alike, generate-cases}
+use Rattle.request.proofs.Checking.{checks-passed, passed-checks, generable-dims, scratch-short, scratch-alike}
+use Rattle.generator.proofs.Ends.{generate-cases}
 use Rattle.promises.specs.Demand1.{Only, Front}
 use Rattle.promises.specs.First.{Outcome, setIn, Call}
 use Rattle.promises.specs.Scratch.{need, LentScratch}

@@ -14,7 +14,8 @@ use Rattle.tables.specs.Terms.{setLineBits, fileLength, padded}
 use Rattle.tables.specs.Format.{Form, setCrossings}
 use Rattle.tables.specs.Datapath.{Performs}
 use Rattle.reading.specs.Reading.{ReadOutcome, readOutcome, readingReply}
-use Rattle.generator.specs.Generating.{Generable, Generates}
+use Rattle.request.specs.Request.{Generable}
+use Rattle.generator.specs.Generating.{Generates}
 use Rattle.generator.specs.declared.Generation.{Generation}
 
 -- a reader: from a file, lent images and lent scratch to an answer with the images afterwards. The contract of `reading::read` says that it is

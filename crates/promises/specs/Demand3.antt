@@ -16,7 +16,8 @@ use Rattle.machine.specs.Step.{fresh}
 use Rattle.machine.specs.Machine.{machine}
 use Rattle.machine.specs.LentClock.{lentMachine}
 use Rattle.machine.specs.Plain.{plain, empty}
-use Rattle.generator.specs.Generating.{Generable, Generates, generationReply}
+use Rattle.request.specs.Request.{Generable}
+use Rattle.generator.specs.Generating.{Generates, generationReply}
 use Rattle.generator.specs.declared.Generation.{Generation}
 use Rattle.rughtena.specs.Step.{exportedMachine}
 use Rattle.promises.specs.Demand2.{ReadsAs, Lent}

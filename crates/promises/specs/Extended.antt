@@ -12,7 +12,8 @@ use Rattle.refusal.specs.Replies.{Reply, refuses}
 use Rattle.images.specs.Images.{orderOf}
 use Rattle.tables.specs.Terms.{Limited, Dims, cycles, fileLength, padded}
 use Rattle.reading.specs.Reading.{readOf}
-use Rattle.generator.specs.Generating.{Generable, Generates, generationReply}
+use Rattle.request.specs.Request.{Generable}
+use Rattle.generator.specs.Generating.{Generates, generationReply}
 use Rattle.generator.specs.declared.Generation.{Generation}
 use Rattle.promises.specs.Demand2.{told, toldOf, Lent}
 use Rattle.promises.specs.Plain.{Given}

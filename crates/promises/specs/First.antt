@@ -11,7 +11,8 @@ use Rattle.tables.specs.Format.{readAddress}
 use Rattle.tables.specs.Generated.{setOf}
 use Rattle.tables.specs.First.{Earlier, First}
 use Rattle.reading.specs.Reading.{readOf}
-use Rattle.generator.specs.Generating.{Generable, Generates}
+use Rattle.request.specs.Request.{Generable}
+use Rattle.generator.specs.Generating.{Generates}
 use Rattle.generator.specs.declared.Generation.{Generation}
 use Rattle.promises.specs.Demand2.{ReadsAs}
 use Rattle.promises.specs.Questions.{making, bytes, answer}

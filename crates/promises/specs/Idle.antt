@@ -10,7 +10,8 @@ use Rattle.tables.specs.Terms.{cycles, fileLength, padded}
 use Rattle.reading.specs.Reading.{readOf}
 use Rattle.machine.specs.Devices.{filling, wrote, refused, Seen, seen, Feed, feed, After, run}
 use Rattle.machine.specs.Plain.{plain, empty}
-use Rattle.generator.specs.Generating.{Generable, Generates, generationReply}
+use Rattle.request.specs.Request.{Generable}
+use Rattle.generator.specs.Generating.{Generates, generationReply}
 use Rattle.generator.specs.declared.Generation.{Generation}
 use Rattle.promises.specs.Demand2.{Reader, told, toldOf, ReadsAs, Refuses, Lent, Exact}
 

@@ -18,7 +18,8 @@ use Rattle.tables.specs.Format.{readAddress, switchBit, writeAddress}
 use Rattle.tables.specs.Generated.{setOf}
 use Rattle.tables.specs.FirstTest.{firstTest}
 use Rattle.reading.specs.Reading.{ReadOutcome, readOutcome, readOf, readingReply}
-use Rattle.generator.specs.Generating.{extentOf, checksOf, generationReply}
+use Rattle.request.specs.Request.{checksOf}
+use Rattle.generator.specs.Generating.{extentOf, generationReply}
 use Rattle.generator.specs.declared.Generation.{Generation}
 use Rattle.generator.specs.declared.Generation.the-variants.{Written as Made, Refused as Unmade}
 use Rattle.machine.specs.Devices.{Feed, Seen, run}

@@ -20,7 +20,8 @@ use Rattle.passing.specs.Calls.{followOf, followedReply}
 use Rattle.tables.specs.Terms.{cycles, depth, switchBits, fileLength, padded}
 use Rattle.tables.specs.Format.{switchBit}
 use Rattle.tables.specs.Datapath.{source}
-use Rattle.generator.specs.Generating.{Generable, Generates}
+use Rattle.request.specs.Request.{Generable}
+use Rattle.generator.specs.Generating.{Generates}
 use Rattle.generator.specs.declared.Generation.{Generation}
 
 -- the line permutation of line t: line b goes to the port of the word that bank b gives in line t of a set for the permutation p

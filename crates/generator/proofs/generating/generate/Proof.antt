@@ -7,8 +7,9 @@ use lib.Seq.{length-take-le}
 use Rattle.images.specs.Images.{orderOf}
 use Rattle.images.specs.declared.Checked.the-variants.{Permutation}
 use Rattle.images.proofs.Orders.{order-cut}
-use Rattle.generator.specs.Generating.{checksOf, Generable}
-use Rattle.generator.proofs.Checking.{checks-passed, generable-dims, generable-permutes, scratch-enough, generates-refused, generates-made}
+use Rattle.request.specs.Request.{checksOf, Generable}
+use Rattle.request.proofs.Checking.{checks-passed, generable-dims, generable-permutes, scratch-enough}
+use Rattle.generator.proofs.Ends.{generates-refused, generates-made}
 use Rattle.generator.proofs.generating.generate.Statement.{statement}
 use Rattle.generator.proofs.generating.generate.Tie as tie
 

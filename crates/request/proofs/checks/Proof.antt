@@ -1,4 +1,4 @@
--- `generating::checks` meets its contract: the limits are told first, then the padded n, and where they are kept the rest is asked.
+-- `checks` meets its contract: the limits are told first, then the padded n, and where they are kept the rest is asked.
 use mathlib.Core.Path.{refl, sym, _∙_}
 use borrow.Author.Needs.{needs}
 use Rattle.limits.specs.Limits.{mostWords}
@@ -7,9 +7,9 @@ use Rattle.images.specs.declared.Checked.the-variants.{Refused}
 use Rattle.tables.specs.Terms.{Limited, padded}
 use Rattle.tables.proofs.LimitTests.{limits-kept, limits-refused, limit-passes}
 use Rattle.tables.proofs.Padded.{padded-above, padded-dims}
-use Rattle.generator.specs.Generating.{checksOf}
-use Rattle.generator.proofs.generating.checks.Statement.{statement}
-use Rattle.generator.proofs.generating.checks.Tie as tie
+use Rattle.request.specs.Request.{checksOf}
+use Rattle.request.proofs.checks.Statement.{statement}
+use Rattle.request.proofs.checks.Tie as tie
 
 test-limits-requires : tie.Need-test-limits-requires
 test-limits-requires c κs = search needs

@@ -1,4 +1,4 @@
--- `generating::check_roomy` meets its contract. Its measure is what the room lacks of the longest frame: it calls itself with the most room,
+-- `check_roomy` meets its contract. Its measure is what the room lacks of the longest frame: it calls itself with the most room,
 -- and only where there is less.
 use Prim.Native.Nat.{ℕ, _-_, _<_}
 use native.Mathlib.Omega.{arith}
@@ -6,12 +6,12 @@ use borrow.Author.Needs.{needs}
 use borrow.Fn.Kinds.{In}
 use borrow.Fn.PlainCycle.{Measures, is, falls, and}
 use Rattle.limits.specs.Limits.{mostWords}
-use Rattle.generator.proofs.generating.check_roomy.Reads as check-roomy
-use Rattle.generator.proofs.generating.check_roomy.Kinds as check-roomy-kinds
-use Rattle.generator.proofs.generating.+check_roomy.Lts-check_roomy as check-roomy-lts
-use Rattle.generator.proofs.generating.check_long.Reads as check-long-reads
-use Rattle.generator.proofs.generating.+check_roomy.{statement}
-use Rattle.generator.proofs.generating.+check_roomy.Tie.{close}
+use Rattle.request.proofs.check_roomy.Reads as check-roomy
+use Rattle.request.proofs.check_roomy.Kinds as check-roomy-kinds
+use Rattle.request.proofs.+check_roomy.Lts-check_roomy as check-roomy-lts
+use Rattle.request.proofs.check_long.Reads as check-long-reads
+use Rattle.request.proofs.+check_roomy.{statement}
+use Rattle.request.proofs.+check_roomy.Tie.{close}
 
 abbrev μ-check-roomy : Measures 1 check-roomy-kinds.ps ℕ
 μ-check-roomy κs a = mostWords - a .1 .1 .0

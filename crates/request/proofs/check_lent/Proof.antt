@@ -1,4 +1,4 @@
--- `generating::check_lent` meets its contract: each return stands at its place in the chain of tests.
+-- `check_lent` meets its contract: each return stands at its place in the chain of tests.
 use mathlib.Core.Path.{_≡_, refl, _∙_}
 use native.Mathlib.Omega.{arith}
 use borrow.Author.Needs.{needs}
@@ -9,9 +9,9 @@ use Rattle.images.specs.declared.Checked.{Checked}
 use Rattle.images.specs.declared.Checked.the-variants.{Refused}
 use Rattle.images.specs.Images.{checkOf}
 use Rattle.tables.proofs.Opens.{shape-own, shape-fileLength}
-use Rattle.generator.specs.Generating.{lentTest, scratchNeed}
-use Rattle.generator.proofs.generating.check_lent.Statement.{statement}
-use Rattle.generator.proofs.generating.check_lent.Tie as tie
+use Rattle.request.specs.Request.{lentTest, scratchNeed}
+use Rattle.request.proofs.check_lent.Statement.{statement}
+use Rattle.request.proofs.check_lent.Tie as tie
 
 returns : tie.Need-returns
 unfolding lentTest

@@ -1,12 +1,12 @@
--- `generating::pad` meets its contract: it is the definition, and no part of it overflows.
+-- `pad` meets its contract: it is the definition, and no part of it overflows.
 use Prim.Native.Nat.{ℕ, _*_, _/_, _^_, _<_}
 use mathlib.Core.Path.{refl}
 use native.Mathlib.Nat.{div-add-mod'}
 use native.Mathlib.Omega.{arith}
 use borrow.Author.Needs.{needs}
 use Rattle.tables.specs.Terms.{padded}
-use Rattle.generator.proofs.generating.pad.Statement.{statement}
-use Rattle.generator.proofs.generating.pad.Tie as tie
+use Rattle.request.proofs.pad.Statement.{statement}
+use Rattle.request.proofs.pad.Tie as tie
 
 -- the whole part of a division, multiplied again, is not above what was divided
 whole-below : (x w limit : ℕ) → x < limit → x / w * w < limit
