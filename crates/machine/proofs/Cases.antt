@@ -21,8 +21,8 @@ use Rattle.tables.specs.declared.Opened.the-variants.{Set}
 use Rattle.tables.proofs.Dims.{Dims}
 use Rattle.tables.proofs.Form.{form-same, open-cases, opened-form}
 use Rattle.tables.proofs.Within.{Within, strays-within, within-strays}
+use Rattle.clock.specs.declared.Clock.{Clock}
 use Rattle.machine.specs.Step.{StepOutcome, stepOutcome, accepted, bufferTest, lineTest, clockTest, stepLine, stepOpened, stepOf}
-use Rattle.machine.specs.declared.Clock.{Clock}
 use Rattle.machine.specs.declared.Stepped.the-variants.{Refused}
 use Rattle.machine.specs.inner.Ready.{Room, InRange}
 

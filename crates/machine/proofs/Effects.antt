@@ -11,8 +11,8 @@ use Rattle.tables.specs.Datapath.{carriedTo}
 use Rattle.tables.proofs.Dims.{Dims}
 use Rattle.tables.proofs.Targets.{carriedTo-injective}
 use Rattle.tables.proofs.Within.{Within}
+use Rattle.clock.specs.declared.Clock.{Clock}
 use Rattle.machine.specs.Step.{spot, moving, entering}
-use Rattle.machine.specs.declared.Clock.{Clock}
 use Rattle.machine.specs.inner.Rows.{stored}
 use Rattle.machine.proofs.Spots.{spot-injective, spot-fits}
 use Rattle.machine.proofs.Stores.{length-stored, stored-other, stored-at, stored-ext}

@@ -22,8 +22,8 @@ use Rattle.tables.proofs.Accepted.{Accepted}
 use Rattle.tables.proofs.Targets.{source-below}
 use Rattle.tables.proofs.Within.{Within, accepted-within}
 use Rattle.tables.proofs.Performs.{performs-accepted}
+use Rattle.clock.proofs.Clocks.{clockAt}
 use Rattle.machine.specs.Step.{moving, entering}
-use Rattle.machine.proofs.Clocks.{clockAt}
 use Rattle.machine.proofs.Effects.{entering-at, entering-elsewhere, length-moving, moving-at, moving-elsewhere}
 use Rattle.machine.proofs.Lines.{Holds, Moved, lines-permute}
 

@@ -10,8 +10,8 @@ use Rattle.tables.specs.Terms.{cycles}
 use Rattle.tables.specs.Format.{Shaped}
 use Rattle.tables.specs.declared.Shape.{Shape}
 use Rattle.tables.proofs.Dims.{cycles-few}
+use Rattle.clock.specs.declared.Clock.{Clock}
 use Rattle.machine.specs.Step.{spot, entering}
-use Rattle.machine.specs.declared.Clock.{Clock}
 use Rattle.machine.proofs.Spots.{spot-below, banks-size}
 
 module _ {s : Shape} (S : Shaped s) (h b p : ℕ) where

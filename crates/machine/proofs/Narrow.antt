@@ -10,8 +10,8 @@ use Rattle.refusal.specs.declared.Refusal.the-variants.{ReadAddress, WriteAddre
 use Rattle.tables.specs.Terms.{cycles, depth}
 use Rattle.tables.specs.Format.{readAddress, switchBit, lineCrossings, writeAddress}
 use Rattle.tables.proofs.Narrow.{read-strays, write-strays, reads-stay, writes-stay, carries-stay, switchBit-lt, one-full, one-carried, one-crossings, two-full, two-carried, two-crossings}
+use Rattle.clock.specs.declared.Clock.{Clock}
 use Rattle.machine.specs.Step.{spot, moving}
-use Rattle.machine.specs.declared.Clock.{Clock}
 use Rattle.machine.specs.declared.stepping.Moved.the-variants.{Crossed, Refused as Unmoved}
 use Rattle.machine.specs.inner.Ready.{lineOutcome, moveOf}
 use Rattle.machine.proofs.Tests.{read-refused, write-refused, line-moves}

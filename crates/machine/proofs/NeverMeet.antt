@@ -14,8 +14,8 @@ use Rattle.tables.specs.Datapath.{carriedTo}
 use Rattle.tables.specs.declared.Opened.the-variants.{Set}
 use Rattle.tables.proofs.Targets.{carriedTo-injective}
 use Rattle.tables.proofs.Within.{Within}
+use Rattle.clock.specs.declared.Clock.{Clock}
 use Rattle.machine.specs.Step.{leaving, moving, entering, stepOutcome, stepOf}
-use Rattle.machine.specs.declared.Clock.{Clock}
 use Rattle.machine.specs.declared.Stepped.the-variants.{Refused}
 use Rattle.machine.proofs.Spots.{bankOf, halfOf, bankOf-spot, halfOf-spot}
 use Rattle.machine.proofs.Effects.{enterSpot, leaveSpot, readSpot, writeSpot, write-inside, entering-other, moving-other, moving-ext}

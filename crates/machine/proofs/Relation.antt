@@ -17,15 +17,17 @@ use Rattle.laws.proofs.Permutations.{inverse-below, inverse-right}
 use Rattle.tables.specs.Terms.{cycles}
 use Rattle.tables.specs.Datapath.{Performs}
 use Rattle.tables.proofs.Dims.{Dims, cycles-mul, cycles-positive, word-below}
+use Rattle.clock.specs.Clocks.{fresh}
+use Rattle.clock.specs.declared.Clock.{Clock}
+use Rattle.clock.proofs.Clocks.{clockAt, clock-next, clock-turns}
 use Rattle.machine.specs.Devices.{seen, filling, wrote}
-use Rattle.machine.specs.Step.{fresh, leaving, entering, saysOf, accepted}
+use Rattle.machine.specs.Step.{leaving, entering, saysOf, accepted}
 use Rattle.machine.specs.Machine.{Card, said, carded}
 use Rattle.machine.specs.Plain.{Row, empty, given, took}
-use Rattle.machine.specs.declared.Clock.{Clock}
 use Rattle.machine.proofs.Effects.{length-entering}
 use Rattle.machine.proofs.Runs.{Agree}
 use Rattle.machine.proofs.Given.{given-word}
-use Rattle.machine.proofs.Clocks.{clockAt, clock-next, clock-turns, clock-after}
+use Rattle.machine.proofs.Clocks.{clock-after}
 use Rattle.machine.proofs.Frames.{Held, movedTo, length-movedTo, held-empty, held-step, held-turn}
 
 pub record Related (n w : ℕ) (file : List ℕ) (p : ℕ → ℕ) (card : Card) (row : Row) : Type 0 where

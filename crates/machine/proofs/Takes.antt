@@ -21,8 +21,8 @@ use Rattle.tables.proofs.Dims.{depth-reaches}
 use Rattle.tables.proofs.Lined.{Line, read-is, write-is, source-is}
 use Rattle.tables.proofs.Targets.{carriedTo-injective}
 use Rattle.tables.proofs.Within.{Within}
+use Rattle.clock.specs.declared.Clock.{Clock}
 use Rattle.machine.specs.Step.{spot, moving}
-use Rattle.machine.specs.declared.Clock.{Clock}
 use Rattle.machine.specs.inner.Rows.{stored}
 use Rattle.machine.proofs.Spots.{spot-injective}
 use Rattle.machine.proofs.Stores.{length-stored, stored-other, stored-at}

@@ -18,8 +18,8 @@ use Rattle.tables.proofs.Held.{readsOf, writesOf, reads-known, writes-known}
 use Rattle.tables.proofs.Lined.{Line}
 use Rattle.tables.proofs.Narrow.{read-strays, write-strays, reads-stay, writes-stay}
 use Rattle.tables.proofs.Within.{Within, strays-within}
+use Rattle.clock.specs.declared.Clock.{Clock}
 use Rattle.machine.specs.Step.{moving}
-use Rattle.machine.specs.declared.Clock.{Clock}
 use Rattle.machine.specs.inner.Rows.{spotIn, wordIn, Taken, Outside, TakenTo, Sent, stored}
 use Rattle.machine.proofs.Spots.{spot-fits}
 use Rattle.machine.proofs.Stores.{stored-ext}

@@ -19,8 +19,8 @@ use Rattle.tables.specs.Format.{lineCrossings, openOf}
 use Rattle.tables.specs.declared.Opened.{Opened}
 use Rattle.tables.specs.declared.Opened.the-variants.{Set, Refused as Unopened}
 use Rattle.tables.specs.declared.Shape.{Shape}
+use Rattle.clock.specs.declared.Clock.{Clock}
 use Rattle.machine.specs.Step.{leaving, moving, entering, movedCrossings, saysOf, StepOutcome, stepOutcome, accepted, bufferTest, lineTest, clockTest, stepLine, stepOpened, stepOf}
-use Rattle.machine.specs.declared.Clock.{Clock}
 use Rattle.machine.specs.declared.Stepped.{Stepped}
 use Rattle.machine.specs.declared.Stepped.the-variants.{Refused}
 use Rattle.machine.specs.declared.stepping.Tested.{Tested}

@@ -18,13 +18,15 @@ use Rattle.tables.proofs.Form.{opened-dims, setOf-opened}
 use Rattle.tables.proofs.ReadsBack.{setOf-performs}
 use Rattle.tables.proofs.Within.{accepted-within}
 use Rattle.tables.proofs.Performs.{performs-accepted}
+use Rattle.clock.specs.Clocks.{fresh}
+use Rattle.clock.proofs.Clocks.{clockAt}
 use Rattle.machine.specs.Devices.{Feed, feed, After, run}
-use Rattle.machine.specs.Step.{fresh, StepOutcome}
+use Rattle.machine.specs.Step.{StepOutcome}
 use Rattle.machine.specs.Machine.{Card, carded, clockAfter, said, machine}
 use Rattle.machine.specs.Plain.{Row, empty, turned, plain}
 use Rattle.machine.proofs.Runs.{reached, Agree, simulate, simulate-reached}
 use Rattle.machine.proofs.Cases.{stepLeft, step-left}
-use Rattle.machine.proofs.Clocks.{clockAt, clockAt-in-range}
+use Rattle.machine.proofs.Clocks.{clockAt-in-range}
 use Rattle.machine.proofs.Relation.{Related, related-fresh, accepted-agrees}
 
 module _ {n w : ℕ} (file : List ℕ) (p : ℕ → ℕ) (opened : openOf file ≡ Set (shapeOf n w)) (P : Performs n w file p) where

@@ -2,10 +2,10 @@
 -- reference the clock that its answer leaves. Of a refusal the document says: "no lent word and no clock is altered".
 use Prim.Native.Nat.{ℕ}
 use mathlib.Core.List.{List}
+use Rattle.clock.specs.declared.Clock.{Clock}
 use Rattle.machine.specs.Devices.{seen, Feed, feed, After}
 use Rattle.machine.specs.Step.{StepOutcome, stepOutcome, stepOf}
 use Rattle.machine.specs.Machine.{Card, said, clockAfter}
-use Rattle.machine.specs.declared.Clock.{Clock}
 use Rattle.machine.specs.declared.Stepped.{Stepped}
 
 -- an answer, with the lent clock, the first memory, the second memory and the output memory afterwards

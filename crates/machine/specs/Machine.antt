@@ -3,10 +3,10 @@ use Prim.Native.Nat.{ℕ}
 use mathlib.Core.List.{List, [], _∷_}
 use Rattle.refusal.specs.Replies.{Reply, accepts, refusalReply}
 use Rattle.refusal.specs.Refusals.{numberOf, placeOf}
+use Rattle.clock.specs.declared.Clock.{Clock}
 use Rattle.machine.specs.Devices.{Said, filling, wrote, refused, seen, Feed, feed, After}
 use Rattle.machine.specs.Step.{StepOutcome, stepOutcome, stepOf}
 use Rattle.machine.specs.declared.Advance.{Advance}
-use Rattle.machine.specs.declared.Clock.{Clock}
 use Rattle.machine.specs.declared.Stepped.{Stepped}
 use Rattle.machine.specs.declared.Stepped.the-variants.{Filling, Wrote, Refused}
 

@@ -1,6 +1,6 @@
 -- One step of the cycle machine (document 01, "The cycle machine"). "Bank b's address p is word 2cb + p. Half 0 of a bank is addresses
--- 0 to c-1, half 1 is c to 2c-1."
-use Prim.Native.Nat.{ℕ, zero, suc, _+_, _*_, _-_, min}
+-- 0 to c-1, half 1 is c to 2c-1." Its point 4, the next clock, is `nextClock` in `crates/clock/specs/Clocks.antt`.
+use Prim.Native.Nat.{ℕ, zero, suc, _+_, _*_, _-_}
 use mathlib.Core.List.{List}
 use lib.ListN.{length, getD, set}
 use Rattle.laws.specs.Choice.{choose, ifLt, ifLe, ifEq}
@@ -12,25 +12,15 @@ use Rattle.tables.specs.Format.{readAddress, lineCrossings, writeAddress, openO
 use Rattle.tables.specs.Datapath.{carriedTo, readStrays, carryStrays, writeStrays}
 use Rattle.tables.specs.declared.Opened.{Opened}
 use Rattle.tables.specs.declared.Opened.the-variants.{Set, Refused as Unopened}
+use Rattle.clock.specs.Clocks.{nextClock}
+use Rattle.clock.specs.declared.Clock.{Clock}
 use Rattle.machine.specs.declared.Advance.{Advance}
-use Rattle.machine.specs.declared.Clock.{Clock}
 use Rattle.machine.specs.declared.Stepped.{Stepped}
 use Rattle.machine.specs.declared.Stepped.the-variants.{Filling, Wrote, Refused}
 
 -- the word of a memory at address p of half h of bank b
 unfoldable pub spot : ℕ → ℕ → ℕ → ℕ → ℕ
 spot c h b p = b * (2 * c) + (h * c + p)
-
--- "a fresh clock is all zero"
-unfoldable pub fresh : Clock
-fresh = record { cycle = 0; half = 0; fill = 0 }
-
--- 4. "t grows by one. After c-1 it returns to 0, h flips, and fill grows by one up to 2."
-unfoldable pub nextFrame : Clock → Clock
-nextFrame clock = record { cycle = 0; half = 1 - clock .half; fill = min (clock .fill + 1) 2 }
-
-unfoldable pub nextClock : ℕ → Clock → Clock
-nextClock c clock = ifLt (clock .cycle + 1) c (record { cycle = clock .cycle + 1; half = clock .half; fill = clock .fill }) (nextFrame clock)
 
 -- 1. "the w words that leave are address t of half 1-h of each bank of the second memory"
 unfoldable pub leaving : ℕ → Clock → List ℕ → ℕ → ℕ

@@ -36,10 +36,11 @@ use Rattle.generator.specs.Generating.{Generates, generationReply}
 use Rattle.request.proofs.Checking.{checks-passed}
 use Rattle.generator.proofs.Ends.{generate-cases}
 use Rattle.generator.specs.declared.Generation.{Generation}
-use Rattle.machine.specs.Step.{leaving, moving, entering, nextClock, movedCrossings, advanceOf, saysOf, StepOutcome, stepOutcome, accepted as stepAccepted, stepOf}
+use Rattle.clock.specs.Clocks.{nextClock}
+use Rattle.clock.specs.declared.Clock.{Clock}
+use Rattle.machine.specs.Step.{leaving, moving, entering, movedCrossings, advanceOf, saysOf, StepOutcome, stepOutcome, accepted as stepAccepted, stepOf}
 use Rattle.machine.specs.Machine.{clockAfter, advanceValues, stepReply}
 use Rattle.machine.specs.LentClock.{Lent, lent, clocked, lentStep}
-use Rattle.machine.specs.declared.Clock.{Clock}
 use Rattle.machine.specs.declared.Stepped.{Stepped}
 use Rattle.machine.specs.declared.Stepped.the-variants.{Refused as Unstepped}
 use Rattle.machine.proofs.Cases.{Passed, step-cases}

@@ -12,8 +12,8 @@ use Rattle.reading.specs.Reading.{readAs, readOf, readingReply}
 use Rattle.tables.proofs.SetBits.{length-setOf}
 use Rattle.tables.proofs.Performs.{performs-ext}
 use Rattle.reading.proofs.Exact.{read-performs, generated-reads}
+use Rattle.clock.specs.Clocks.{fresh}
 use Rattle.machine.specs.Devices.{Feed, run}
-use Rattle.machine.specs.Step.{fresh}
 use Rattle.machine.specs.Machine.{machine}
 use Rattle.machine.specs.LentClock.{lentMachine}
 use Rattle.machine.specs.Plain.{plain, empty}

@@ -28,8 +28,9 @@ use Rattle.request.specs.Request.{scratchNeed, lentTest, checksOf}
 use Rattle.generator.specs.Generating.{Generates, generationReply}
 use Rattle.generator.specs.declared.Generation.{Generation}
 use Rattle.generator.proofs.Ends.{generate-cases}
+use Rattle.clock.specs.Clocks.{fresh, nextFrame, nextClock}
 use Rattle.machine.specs.Devices.{run}
-use Rattle.machine.specs.Step.{spot, fresh, nextFrame, nextClock, leaving, moving, entering, movedCrossings, advanceOf, saysOf, accepted, bufferTest, clockTest, lineTest, stepLine, stepOpened, stepOf}
+use Rattle.machine.specs.Step.{spot, leaving, moving, entering, movedCrossings, advanceOf, saysOf, accepted, bufferTest, clockTest, lineTest, stepLine, stepOpened, stepOf}
 use Rattle.machine.specs.Machine.{said, clockAfter, carded, machine, advanceValues, stepReply}
 use Rattle.machine.specs.Plain.{empty, given, took, turned, plain}
 use Rattle.promises.specs.Power.{replies, cardReply, reported}

@@ -24,11 +24,12 @@ use Rattle.tables.proofs.Crossings.{crossings-most}
 use Rattle.tables.proofs.Form.{form-same, opened-form}
 use Rattle.reading.specs.Reading.{readAs, readOf, readingReply}
 use Rattle.reading.proofs.Exact.{Performed, read-cases}
+use Rattle.clock.specs.Clocks.{nextFrame, nextClock}
+use Rattle.clock.specs.declared.Clock.{Clock}
 use Rattle.machine.specs.Devices.{Feed, feed, After}
-use Rattle.machine.specs.Step.{nextFrame, nextClock, movedCrossings, advanceOf, saysOf, StepOutcome, stepOutcome, stepOf, accepted}
+use Rattle.machine.specs.Step.{movedCrossings, advanceOf, saysOf, StepOutcome, stepOutcome, stepOf, accepted}
 use Rattle.machine.specs.Machine.{Card, clockAfter, carded, machine, advanceValues, stepReply}
 use Rattle.machine.specs.LentClock.{Lent, lent, clocked, lentStep, lentMachine}
-use Rattle.machine.specs.declared.Clock.{Clock}
 use Rattle.machine.specs.declared.Stepped.{Stepped}
 use Rattle.machine.specs.declared.Stepped.the-variants.{Filling, Wrote, Refused}
 use Rattle.machine.proofs.Cases.{step-cases}

@@ -20,10 +20,11 @@ use Rattle.reading.specs.Reading.{readOf, readOutcome, readingReply}
 use Rattle.reading.specs.declared.Reading.{Reading}
 use Rattle.generator.specs.Generating.{Generates, generationReply}
 use Rattle.generator.specs.declared.Generation.{Generation}
-use Rattle.machine.specs.Step.{spot, nextClock, movedCrossings, stepOf, stepOutcome}
+use Rattle.clock.specs.Clocks.{nextClock}
+use Rattle.clock.specs.declared.Clock.{Clock}
+use Rattle.machine.specs.Step.{spot, movedCrossings, stepOf, stepOutcome}
 use Rattle.machine.specs.Machine.{stepReply}
 use Rattle.machine.specs.LentClock.{lent, lentStep}
-use Rattle.machine.specs.declared.Clock.{Clock}
 use Rattle.machine.specs.declared.Stepped.{Stepped}
 use Rattle.rughtena.specs.Answers.{clockOf, clockNumbers}
 use Rattle.rughtena.specs.Step.{exported, exportedStep, replyBy}

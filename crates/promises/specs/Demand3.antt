@@ -11,8 +11,8 @@ use Rattle.refusal.specs.Replies.{accepts}
 use Rattle.images.specs.Images.{orderOf}
 use Rattle.tables.specs.Terms.{fileLength, padded}
 use Rattle.reading.specs.Reading.{readOf}
+use Rattle.clock.specs.Clocks.{fresh}
 use Rattle.machine.specs.Devices.{Feed, run}
-use Rattle.machine.specs.Step.{fresh}
 use Rattle.machine.specs.Machine.{machine}
 use Rattle.machine.specs.LentClock.{lentMachine}
 use Rattle.machine.specs.Plain.{plain, empty}

@@ -6,9 +6,9 @@ use mathlib.Core.List.{List, [], _∷_, _++_, map}
 use lib.ListN.{replicate}
 use Rattle.laws.specs.Tabulate.{tabulate}
 use Rattle.refusal.specs.Replies.{accepts}
+use Rattle.clock.specs.Clocks.{fresh}
+use Rattle.clock.specs.declared.Clock.{Clock}
 use Rattle.machine.specs.Devices.{Feed, feed, Seen, seen, filling, wrote, refused}
-use Rattle.machine.specs.Step.{fresh}
-use Rattle.machine.specs.declared.Clock.{Clock}
 use Rattle.promises.specs.LongExamples.{longs}
 use Rattle.promises.specs.Questions.{generating, reading, setting, following, stepping, running, reordering, making, readLines, switchLines, writeLines, measuring, counting, reporting, counts, says, shows, bytes, lines, long, answer, Example, asks, generatingRefused, readingRefused, settingRefused, followingRefused, steppingRefused}
 

@@ -2,7 +2,7 @@
 use Prim.Native.Nat.{ℕ}
 use mathlib.Core.List.{List, [], _∷_}
 use lib.ListN.{replicate}
-use Rattle.machine.specs.Step.{fresh}
+use Rattle.clock.specs.Clocks.{fresh}
 use Rattle.promises.specs.Questions.{heading, measuring, counting, bytes, long, Example, asks, generatingRefused, readingRefused, steppingRefused}
 
 -- the long form's header for w 1, with this n in its last two bytes

@@ -8,11 +8,11 @@ use lib.ListN.{length, getD}
 use Rattle.refusal.specs.Replies.{Reply, accepts, refuses}
 use Rattle.tables.specs.Terms.{cycles, switchBits}
 use Rattle.reading.specs.Reading.{readOf}
+use Rattle.clock.specs.declared.Clock.{Clock}
 use Rattle.machine.specs.Devices.{Feed, feed, After}
 use Rattle.machine.specs.Step.{StepOutcome, stepOutcome, stepOf}
 use Rattle.machine.specs.Machine.{Card, machine, stepReply}
 use Rattle.machine.specs.LentClock.{Lent, lent, lentStep, lentMachine}
-use Rattle.machine.specs.declared.Clock.{Clock}
 use Rattle.rughtena.specs.Answers.{clockOf}
 use Rattle.rughtena.specs.Step.{Exported, exported, exportedStep, replyBy, Board, exportedMachine}
 use Rattle.promises.specs.Demand2.{told, toldOf}

@@ -22,11 +22,12 @@ use Rattle.request.specs.Request.{checksOf}
 use Rattle.generator.specs.Generating.{extentOf, generationReply}
 use Rattle.generator.specs.declared.Generation.{Generation}
 use Rattle.generator.specs.declared.Generation.the-variants.{Written as Made, Refused as Unmade}
+use Rattle.clock.specs.Clocks.{fresh}
+use Rattle.clock.specs.declared.Clock.{Clock}
 use Rattle.machine.specs.Devices.{Feed, Seen, run}
-use Rattle.machine.specs.Step.{fresh, StepOutcome, stepOutcome, stepOf}
+use Rattle.machine.specs.Step.{StepOutcome, stepOutcome, stepOf}
 use Rattle.machine.specs.Machine.{Card, machine, stepReply}
 use Rattle.machine.specs.Plain.{plain, empty}
-use Rattle.machine.specs.declared.Clock.{Clock}
 use Rattle.promises.specs.Power.{replies, cardReply, reported}
 
 pub data Question : Type 0 where

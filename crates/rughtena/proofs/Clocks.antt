@@ -5,7 +5,7 @@ use mathlib.Core.Path.{_≡_, refl, ap}
 use mathlib.Core.List.{List, [], _∷_}
 use native.Mathlib.Omega.{arith}
 use lib.ListN.{length, getD, set}
-use Rattle.machine.specs.declared.Clock.{Clock}
+use Rattle.clock.specs.declared.Clock.{Clock}
 use Rattle.rughtena.specs.Answers.{clockOf, clockNumbers, putClock}
 
 set-own : (l : List ℕ) (i : ℕ) → set l i (getD l i 0) ≡ l

@@ -12,8 +12,8 @@ use Rattle.setting.specs.Calls.{settingReply}
 use Rattle.setting.specs.declared.Setting.{Setting}
 use Rattle.reading.specs.Reading.{readingReply}
 use Rattle.reading.specs.declared.Reading.{Reading}
+use Rattle.clock.specs.declared.Clock.{Clock}
 use Rattle.machine.specs.Machine.{stepReply}
-use Rattle.machine.specs.declared.Clock.{Clock}
 use Rattle.machine.specs.declared.Stepped.{Stepped}
 use Rattle.rughtena.specs.declared.Answer.{Answer}
 use Rattle.rughtena.specs.declared.FollowAnswer.{FollowAnswer}

@@ -5,8 +5,8 @@ use mathlib.Core.List.{List}
 use lib.ListN.{length}
 use Rattle.laws.specs.Choice.{ifLt}
 use Rattle.tables.specs.Terms.{cycles}
+use Rattle.clock.specs.declared.Clock.{Clock}
 use Rattle.machine.specs.Step.{moving, movedCrossings, StepOutcome, stepOutcome, accepted, bufferTest, clockTest, lineTest}
-use Rattle.machine.specs.declared.Clock.{Clock}
 use Rattle.machine.specs.declared.Stepped.the-variants.{Refused}
 use Rattle.machine.specs.declared.stepping.Tested.{Tested}
 use Rattle.machine.specs.declared.stepping.Tested.the-variants.{Passed, Refused as Turned}

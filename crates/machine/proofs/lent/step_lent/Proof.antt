@@ -46,14 +46,14 @@ use denote.Triple.Walked.{says, Stays, stay-ref, stay-dropped, gave-slice, walkO
 use denote.Triple.Walked.{walked, walk-meets}
 use denote.Triple.Clauses.{ensured, lasts}
 use denote.Exit.{yes}
+use Rattle.clock.specs.declared.Clock.{Clock}
+use Rattle.clock.proofs.Clock as T
+use Rattle.clock.proofs.Clock.Laws as T′
 use Rattle.machine.specs.Step.{stepOutcome, stepOf}
 use Rattle.machine.specs.Machine.{clockAfter}
 use Rattle.machine.specs.LentClock.{lent, lentStep}
-use Rattle.machine.specs.declared.Clock.{Clock}
 use Rattle.machine.specs.declared.Stepped.{Stepped}
 use Rattle.machine.proofs.LentClock.{lent-says}
-use Rattle.machine.proofs.Clock as T
-use Rattle.machine.proofs.Clock.Laws as T′
 use Rattle.machine.proofs.Stepped as S
 use Rattle.machine.proofs.Stepped.Laws as S′
 use Rattle.machine.proofs.stepping.step as step

@@ -5,9 +5,10 @@ use mathlib.Core.List.{List}
 use native.Mathlib.Omega.{arith}
 use borrow.Author.Needs.{needs}
 use Rattle.laws.proofs.Choices.{ifLt-yes, ifLt-no}
-use Rattle.machine.specs.Step.{nextClock, movedCrossings, advanceOf, saysOf}
+use Rattle.clock.specs.Clocks.{nextClock}
+use Rattle.clock.specs.declared.Clock.{Clock}
+use Rattle.machine.specs.Step.{movedCrossings, advanceOf, saysOf}
 use Rattle.machine.specs.declared.Advance.{Advance}
-use Rattle.machine.specs.declared.Clock.{Clock}
 use Rattle.machine.specs.declared.Stepped.the-variants.{Filling, Wrote}
 use Rattle.machine.proofs.stepping.answer.Statement.{statement}
 use Rattle.machine.proofs.stepping.answer.Tie as tie

@@ -1,7 +1,7 @@
--- `machine::flipped` meets its contract: the other half is 1 where the half is 0, else 0.
+-- `flipped` meets its contract: the other half is 1 where the half is 0, else 0.
 use native.Mathlib.Omega.{arith}
-use Rattle.machine.proofs.flipped.Statement.{statement}
-use Rattle.machine.proofs.flipped.Tie as tie
+use Rattle.clock.proofs.flipped.Statement.{statement}
+use Rattle.clock.proofs.flipped.Tie as tie
 
 returns : tie.Need-returns
 returns c = omega (arith, c .if1 .taken)

@@ -1,12 +1,12 @@
--- `machine::Clock::next` meets its contract for every clock: the cycle grows by one, or the frame ends. A cycle of `cycles` or more is
+-- `Clock::next` meets its contract for every clock: the cycle grows by one, or the frame ends. A cycle of `cycles` or more is
 -- tested first, so adding one cannot overflow.
 use mathlib.Core.Path.{refl}
 use native.Mathlib.Omega.{arith}
 use borrow.Author.Needs.{needs}
 use Rattle.laws.proofs.Choices.{ifLt-yes, ifLt-no}
-use Rattle.machine.specs.Step.{nextClock}
-use Rattle.machine.proofs.Clock.next.Statement.{statement}
-use Rattle.machine.proofs.Clock.next.Tie as tie
+use Rattle.clock.specs.Clocks.{nextClock}
+use Rattle.clock.proofs.Clock.next.Statement.{statement}
+use Rattle.clock.proofs.Clock.next.Tie as tie
 
 next-frame-requires : tie.Need-next-frame-requires
 next-frame-requires c κs = search needs

@@ -1,11 +1,11 @@
--- `machine::Clock::next_frame` meets its contract: half and fill are those of the definition.
+-- `Clock::next_frame` meets its contract: half and fill are those of the definition.
 use Prim.Native.Nat.{ℕ}
 use mathlib.Core.Path.{ap₂}
 use borrow.Author.Needs.{needs}
-use Rattle.machine.specs.Step.{nextFrame}
-use Rattle.machine.specs.declared.Clock.{Clock}
-use Rattle.machine.proofs.Clock.next_frame.Statement.{statement}
-use Rattle.machine.proofs.Clock.next_frame.Tie as tie
+use Rattle.clock.specs.Clocks.{nextFrame}
+use Rattle.clock.specs.declared.Clock.{Clock}
+use Rattle.clock.proofs.Clock.next_frame.Statement.{statement}
+use Rattle.clock.proofs.Clock.next_frame.Tie as tie
 
 -- a clock at the start of a frame
 abbrev starting : ℕ → ℕ → Clock

@@ -1,7 +1,7 @@
--- `machine::grown` meets its contract: fill becomes 1 where it is 0, else 2.
+-- `grown` meets its contract: fill becomes 1 where it is 0, else 2.
 use native.Mathlib.Omega.{arith}
-use Rattle.machine.proofs.grown.Statement.{statement}
-use Rattle.machine.proofs.grown.Tie as tie
+use Rattle.clock.proofs.grown.Statement.{statement}
+use Rattle.clock.proofs.grown.Tie as tie
 
 returns : tie.Need-returns
 returns c = omega (arith, c .if1 .taken)
