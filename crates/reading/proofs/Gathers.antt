@@ -25,11 +25,12 @@ use Rattle.network.proofs.Carried.{leaves-kept}
 use Rattle.tables.specs.Terms.{cycles, depth}
 use Rattle.tables.specs.Format.{readAddress, switchBit, writeAddress}
 use Rattle.tables.specs.Datapath.{carriedTo, source, target, carryStrays, imageOf}
+use Rattle.rows.specs.inner.Marks.{faultAt, faulty, wordAt, placeAt, Marked}
+use Rattle.rows.specs.inner.Rows.{Kept, Sending}
 use Rattle.reading.specs.Reading.{ReadOutcome, readOutcome, readFault, writeFault, contentsOf, readAs, scanLines, readScan, readLines}
 use Rattle.reading.specs.declared.Contents.{Contents}
 use Rattle.reading.specs.declared.Reading.the-variants.{Read, Refused as Unread}
-use Rattle.reading.specs.inner.Gathering.{faultAt, faulty, wordAt, placeAt, Unmarked, Gather, Marked}
-use Rattle.reading.specs.inner.Rows.{Kept, Sending}
+use Rattle.reading.specs.inner.Gathering.{Unmarked, Gather}
 use Rattle.tables.proofs.Dims.{Dims, word-below, word-injective, depth-reaches}
 use Rattle.tables.proofs.Accepted.{Accepted}
 use Rattle.reading.proofs.Scanned.{Passes, sound-below, sound-fresh, passes-accepted, accepted-scan, scan-passes}

@@ -1,16 +1,12 @@
 -- One line of the file that the bytes read as. What the code holds of it is the line's, so its searches are those of the scan, and a line that passes
 -- is gathered.
 use Prim.Native.Nat.{ℕ, suc, _+_, _*_, _<_}
-use mathlib.Core.Path.{_≡_, refl, sym, _∙_}
+use mathlib.Core.Path.{_≡_, sym, _∙_}
 use mathlib.Core.Bool.{true, false}
 use mathlib.Core.List.{List}
 use native.Mathlib.Omega.{arith}
-use native.Mathlib.Decide.{decLt}
-use lib.Dec.{leb}
 use lib.ListN.{getD}
-use borrow.Author.Tests.{le-leb}
 use Rattle.laws.specs.Any.{any}
-use Rattle.laws.proofs.Choices.{false-true, choose-yes}
 use Rattle.refusal.specs.declared.Refusal.{Refusal}
 use Rattle.refusal.specs.declared.Refusal.the-variants.{ReadAddress, SpareLine, WriteAddress}
 use Rattle.bits.specs.Reading.{onward}
@@ -23,19 +19,13 @@ use Rattle.tables.specs.Datapath.{carryStrays}
 use Rattle.tables.specs.declared.Shape.{Shape}
 use Rattle.tables.specs.inner.Lines.{rowAt, Sources, spareUsed}
 use Rattle.tables.proofs.Held.{readsOf, writesOf, reads-known, writes-known, read-row, write-row, line-held, spare-held}
+use Rattle.rows.specs.inner.Marks.{faulty}
+use Rattle.rows.specs.inner.Rows.{Sound, Kept, Sending, WriteOn}
+use Rattle.rows.proofs.Marks.{sound-all, sound-inside}
 use Rattle.reading.specs.Reading.{ReadOutcome, readFault, writeFault, scanLines}
-use Rattle.reading.specs.inner.Gathering.{faulty, Gather}
-use Rattle.reading.specs.inner.Rows.{Sound, Kept, Sending, WriteOn}
-use Rattle.reading.proofs.Marks.{sound-all}
+use Rattle.reading.specs.inner.Gathering.{Gather}
 use Rattle.reading.proofs.Scanned.{scan-read, scan-carry, scan-write}
 use Rattle.reading.proofs.Gathers.{read-faults, write-faults, sending, gather-more}
-
--- a sound bank's address is in the frame
-pub sound-inside : {addresses marks : List ℕ} {w c k : ℕ} → Sound addresses marks w c k → (b : ℕ) → b < k → getD addresses b 0 < c
-sound-inside {addresses} {c = c} N b l = elim (decLt (getD addresses b 0) c) [
-  | yes m ↦ m
-  | no m ↦ false-true (sym (N .none b l) ∙ sym (choose-yes (leb c (getD addresses b 0)) true true _ (le-leb c (getD addresses b 0) (omega arith)) refl))
-]
 
 -- line t of a file, as the code holds it: in bytes that read as the file, by a cursor that stands at the line
 module _ (shape : Shape) (cursor : Cursor) (t : ℕ) {file bytes : List ℕ} (S : Shaped shape) (Z : WithZeros file bytes)

@@ -23,16 +23,17 @@ use Rattle.tables.specs.Terms.{logFrom, logUp, depth, switchBits, lineBits}
 use Rattle.tables.specs.Format.{Shaped, lineAt, lineCrossings}
 use Rattle.tables.specs.declared.Shape.{Shape}
 use Rattle.tables.specs.inner.Lines.{rowAt, Sources, spareUsed}
-use Rattle.tables.proofs.Dims.{addressBits-few, word-below, word-injective}
+use Rattle.tables.proofs.Dims.{addressBits-few, word-below}
 use Rattle.tables.proofs.Opens.{shape-same}
 use Rattle.tables.proofs.Passes.{line-fits, sources-straight, sources-switched}
 use Rattle.tables.proofs.Held.{readsOf, crossings-held}
+use Rattle.rows.specs.inner.Marks.{faulty, Marked, MarkedWith}
+use Rattle.rows.specs.inner.Rows.{Sound, Paired, Inside}
+use Rattle.rows.specs.declared.pairs.Pair.{Pair}
+use Rattle.rows.proofs.Marks.{sound-inside, marked-none, marked-next}
 use Rattle.reading.specs.Reading.{ReadOutcome, scanLines}
-use Rattle.reading.specs.inner.Gathering.{faulty, wordAt, placeAt, Gather, Marked, MarkedWith}
-use Rattle.reading.specs.inner.Rows.{Sound, Paired, Inside}
-use Rattle.reading.specs.declared.narrow.Pair.{Pair}
-use Rattle.reading.proofs.Marks.{marked-none, marked-more}
-use Rattle.reading.proofs.Known.{sound-inside, write-refused, line-passes}
+use Rattle.reading.specs.inner.Gathering.{Gather}
+use Rattle.reading.proofs.Known.{write-refused, line-passes}
 
 -- the numbers of a shape of width w, whose network has s switch bits and no spare line
 pub record Narrow (shape : Shape) (w s : ℕ) : Type 0 where
@@ -136,48 +137,13 @@ crossed-one f e l same = rw (e, sym same) (by _ l)
 
 -- ---- the marks
 
--- the word and the place of one bank more
-marked-next : {reads sources writes places₀ words₀ places words places′ words′ : List ℕ} (w k : ℕ) {word place : ℕ}
-    → wordAt reads sources w k ≡ word → placeAt writes w k ≡ place → word < length places → place < length words
-    → ((j : ℕ) → j < k → wordAt reads sources w j ≡ wordAt reads sources w k → ⊥)
-    → ((j : ℕ) → j < k → placeAt writes w j ≡ placeAt writes w k → ⊥)
-    → MarkedWith word place places words places′ words′
-    → Marked reads sources writes w k places₀ words₀ places words → Marked reads sources writes w (k + 1) places₀ words₀ places′ words′
-marked-next w k e f l m apart apart′ S M = rw (S .0, S .1) (rw (e, f) at (marked-more w k (rw e l) (rw f m) apart apart′ M))
-
+-- the one word goes to the one bank
 pub marked-alone : {reads writes places words places′ words′ : List ℕ} {word place : ℕ} → getD reads 0 0 ≡ word → getD writes 0 0 ≡ place
     → word < length places → place < length words → MarkedWith word place places words places′ words′
     → Marked reads alone writes 1 1 places words places′ words′
 marked-alone {reads} {writes} {places} {words} e f l m S =
     marked-next 1 0 (rw alone-first (omega (arith, e))) (omega (arith, f)) l m (λ j n. absurd (omega arith)) (λ j n. absurd (omega arith)) S
     (marked-none reads alone writes 1 places words)
-
--- the two words go to banks of their own
-pub marked-both : {reads sources writes places words places₁ words₁ places₂ words₂ : List ℕ} {targets : Pair} {b word word′ : ℕ}
-    → b < 2 → Paired writes targets → getD sources 0 0 ≡ b → getD sources 1 0 ≡ 1 - b
-    → word ≡ getD reads b 0 * 2 + b → word′ ≡ getD reads (1 - b) 0 * 2 + (1 - b)
-    → (word < length places) × (word′ < length places) → (targets .first * 2 < length words) × (targets .second * 2 + 1 < length words)
-    → MarkedWith word (targets .first * 2) places words places₁ words₁ → MarkedWith word′ (targets .second * 2 + 1) places₁ words₁ places₂ words₂
-    → Marked reads sources writes 2 2 places words places₂ words₂
-marked-both {reads} {sources} {writes} {places} {words} {targets = targets} {b} {word} {word′} small T e f g h l m S S′ =
-    marked-next 2 1 second (ap (λ (x : ℕ). x * 2 + 1) (T .second)) (rw (S .0, length-set) (l .1)) (rw (S .1, length-set) (m .1)) apart apart′ S′
-    (marked-next 2 0 first (omega (arith, T .first)) (l .0) (m .0) (λ j n. absurd (omega arith)) (λ j n. absurd (omega arith)) S
-    (marked-none reads sources writes 2 places words))
-  where
-    first : wordAt reads sources 2 0 ≡ word
-    first = ap (λ (x : ℕ). getD reads x 0 * 2 + x) e ∙ sym g
-
-    second : wordAt reads sources 2 1 ≡ word′
-    second = ap (λ (x : ℕ). getD reads x 0 * 2 + x) f ∙ sym h
-
-    apart : (j : ℕ) → j < 1 → wordAt reads sources 2 j ≡ wordAt reads sources 2 1 → ⊥
-    apart j n q =
-        let z : j ≡ 0 = omega arith in
-        let same : word ≡ word′ = sym first ∙ ap (wordAt reads sources 2) (sym z) ∙ q ∙ second in
-        omega (arith, word-injective 2 (getD reads b 0) (getD reads (1 - b) 0) b (1 - b) small (omega arith) (sym g ∙ same ∙ h) .1)
-
-    apart′ : (j : ℕ) → j < 1 → placeAt writes 2 j ≡ placeAt writes 2 1 → ⊥
-    apart′ j n q = omega (arith, word-injective 2 (getD writes j 0) (getD writes 1 0) j 1 (omega arith) (omega arith) q .1)
 
 -- ---- the line
 

@@ -1,7 +1,5 @@
 // Reading a table set: which permutation it performs, or why none.
 mod gathering;
-mod narrow;
-mod rows;
 
 pub use gathering::read;
 pub use gathering::read_leavers;

@@ -2,12 +2,10 @@
 -- 65535 stands for none.
 use Prim.Native.Nat.{ℕ, suc, _+_, _*_, _<_, _≤_}
 use mathlib.Core.Path.{_≡_}
-use mathlib.Core.Bool.{Bool, true, false, not}
+use mathlib.Core.Bool.{false}
 use mathlib.Core.List.{List}
-use lib.Dec.{leb, eqb}
-use lib.ListN.{length, getD, set}
+use lib.ListN.{length, getD}
 use Rattle.limits.specs.Limits.{noWord}
-use Rattle.laws.specs.Choice.{choose}
 use Rattle.laws.specs.Any.{any}
 use Rattle.refusal.specs.declared.Refusal.{Refusal}
 use Rattle.bits.specs.Reading.{onward}
@@ -25,14 +23,6 @@ use Rattle.reading.specs.declared.gathering.Gathered.the-variants.{All, 
 -- the cursor behind the first t lines: from the first line's start it has moved on by the bits that were handed out
 abbrev pub behindLines : ℕ → ℕ → ℕ → Cursor
 behindLines n w t = onward (cursorAt n w 0) (t * lineBits n w)
-
--- the address of bank b is outside the frame, or its word or place is marked
-abbrev pub faultAt : List ℕ → List ℕ → ℕ → ℕ → ℕ → Bool
-faultAt addresses marks w c b = choose (leb c (getD addresses b 0)) true (not (eqb (getD marks (getD addresses b 0 * w + b) 0) noWord))
-
--- the address of a bank is so
-unfoldable pub faulty : List ℕ → List ℕ → ℕ → ℕ → Bool
-faulty addresses marks w c = any w (faultAt addresses marks w c)
 
 -- an array with room for a frame of n words, and no marks there
 pub record Unmarked (n : ℕ) (marks : List ℕ) : Type 0 where
@@ -66,23 +56,3 @@ abbrev pub GathersAll : ℕ → ℕ → List ℕ → Gathered → List ℕ → L
 GathersAll n w file (All pass) places words = Passes n w file pass × Gather n w file (cycles n w) places words
 GathersAll n w file (Refused r) places words =
     (refused : Refusal → ReadOutcome) (next : ReadOutcome) → scanLines n w file (cycles n w) 0 refused next ≡ refused r
-
--- the word that a line sends to bank k, and its place
-abbrev pub wordAt : List ℕ → List ℕ → ℕ → ℕ → ℕ
-wordAt reads sources w k = getD reads (getD sources k 0) 0 * w + getD sources k 0
-
-abbrev pub placeAt : List ℕ → ℕ → ℕ → ℕ
-placeAt writes w k = getD writes k 0 * w + k
-
--- the first j banks' words and places are marked with each other, and all else is as it was
-pub record Marked (reads sources writes : List ℕ) (w j : ℕ) (places₀ words₀ places words : List ℕ) : Type 0 where
-  pub long : length places ≡ length places₀
-  pub long′ : length words ≡ length words₀
-  pub placed : (k : ℕ) → k < j → getD places (wordAt reads sources w k) 0 ≡ placeAt writes w k
-  pub worded : (k : ℕ) → k < j → getD words (placeAt writes w k) 0 ≡ wordAt reads sources w k
-  pub kept : (i : ℕ) → ((k : ℕ) → k < j → wordAt reads sources w k ≡ i → ⊥) → getD places i 0 ≡ getD places₀ i 0
-  pub kept′ : (i : ℕ) → ((k : ℕ) → k < j → placeAt writes w k ≡ i → ⊥) → getD words i 0 ≡ getD words₀ i 0
-
--- one word and one place were marked with each other
-abbrev pub MarkedWith : ℕ → ℕ → List ℕ → List ℕ → List ℕ → List ℕ → Type 0
-MarkedWith word place places₀ words₀ places words = (places ≡ set places₀ word place) × (words ≡ set words₀ place word)

@@ -8,8 +8,8 @@ use Rattle.bits.specs.declared.reader.Field.{Field}
 use Rattle.tables.specs.inner.Lines.{rowAt}
 use Rattle.tables.proofs.Groups.{row-address}
 use Rattle.tables.proofs.Held.{read-row}
-use Rattle.reading.specs.inner.Rows.{SoundTo}
-use Rattle.reading.proofs.Marks.{sound-none}
+use Rattle.rows.specs.inner.Rows.{SoundTo}
+use Rattle.rows.proofs.Marks.{sound-none}
 use Rattle.reading.proofs.Known.{read-refused}
 use Rattle.reading.proofs.OneField.{Narrow, narrow-one, narrow-below, alone-carried, crossed-none, marked-alone, behind, narrow-refused, narrow-passes}
 use Rattle.reading.proofs.gathering.one_line.Statement.{statement}

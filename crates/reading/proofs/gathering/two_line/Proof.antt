@@ -9,7 +9,7 @@ use Rattle.bits.specs.declared.reader.Field.{Field}
 use Rattle.bits.proofs.Fields.{bit-lt}
 use Rattle.tables.specs.inner.Lines.{rowAt}
 use Rattle.tables.proofs.Held.{read-row}
-use Rattle.reading.specs.inner.Rows.{SoundTo, Paired, Inside}
+use Rattle.rows.specs.inner.Rows.{SoundTo, Paired, Inside}
 use Rattle.reading.proofs.Known.{read-refused}
 use Rattle.reading.proofs.OneField.{Narrow, narrow-two, pair-inside, both-carried, both-first, both-second, bit-inside, crossed-one, behind, narrow-refused, narrow-passes}
 use Rattle.reading.proofs.gathering.two_line.Statement.{statement}

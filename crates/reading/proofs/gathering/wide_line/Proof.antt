@@ -16,9 +16,9 @@ use Rattle.tables.proofs.Cursors.{room-less, room-behind, carried-on}
 use Rattle.tables.proofs.Opens.{shape-same}
 use Rattle.tables.proofs.Passes.{Fitting, line-fits, line-sized}
 use Rattle.tables.proofs.Held.{readsOf, zeros-self, crossings-held}
-use Rattle.reading.specs.inner.Rows.{RowRead, RowWritten}
-use Rattle.reading.specs.declared.rows.Row.{Row}
-use Rattle.reading.specs.declared.rows.Row.the-variants.{Passed}
+use Rattle.rows.specs.inner.Rows.{RowRead, RowWritten}
+use Rattle.rows.specs.declared.wide.Row.{Row}
+use Rattle.rows.specs.declared.wide.Row.the-variants.{Passed}
 use Rattle.reading.proofs.Known.{send, read-refused, carry-refused, write-refused, line-passes}
 use Rattle.reading.proofs.gathering.wide_line.Statement.{statement}
 use Rattle.reading.proofs.gathering.wide_line.Tie as tie
