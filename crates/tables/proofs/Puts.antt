@@ -1,26 +1,26 @@
--- Values that are put several at a time. Bytes are carried in one number (`bytesOf`) and stored one behind the other (`stores`), so what was put is
--- what the number was made of. The digits of a field are moved to the top of 64 bits; there the next four stand at fixed places, and a shift brings
+-- Values that are put several at a time. Bytes are carried in one number (`bytesOf`) and stored one behind the other, so what was put is what the
+-- number was made of. The digits of a field are moved to the top of 64 bits; there the next four stand at fixed places, and a shift brings
 -- the four behind them. The ones among them are counted in the field.
 use Prim.Native.Nat.{ℕ, zero, suc, _+_, _*_, _-_, _/_, _%_, _^_, _<_, _≤_}
 use mathlib.Core.Path.{_≡_, refl, sym, ap, ap₂, _∙_}
 use mathlib.Core.List.{List}
 use native.Mathlib.Nat.{add-zero, div-one, mod-lt, mod-eq-of-lt}
 use native.Mathlib.Omega.{arith}
-use native.Mathlib.Decide.{decLt}
 use lib.Count.{ones, ones-cat}
-use lib.ListN.{length, getD, set, length-set}
+use lib.ListN.{length, set}
 use lib.Pow.{mod-mod-pow, pow-pos, shr-lt, shr-shr, field as middle}
-use lib.Seq.{getD-set-same, getD-set-other}
 use Rattle.limits.specs.Limits.{mostSwitches}
 use Rattle.laws.specs.Sum.{sum, is, hits}
 use Rattle.laws.proofs.Sums.{is-bit, sum-append, hits-ext}
+use Rattle.laws.specs.Tabulate.{Put}
 use Rattle.laws.proofs.Tabulates.{Filling}
+use Rattle.laws.proofs.Puts.{put-none, put-one, put-append, filling-put}
 use Rattle.bits.specs.Bits.{digit, bit, field}
 use Rattle.bits.specs.inner.Taking.{mostField}
 use Rattle.bits.proofs.Digits.{digit-lt, digit-div, digit-mod, digit-high}
 use Rattle.bits.proofs.Fields.{bit-lt, bit-field}
 use Rattle.network.specs.Network.{bitCount}
-use Rattle.tables.specs.inner.Lines.{byteOf, bytesOf, Put, Spread}
+use Rattle.tables.specs.inner.Lines.{byteOf, bytesOf, Spread}
 
 -- ---- bytes
 
@@ -44,70 +44,6 @@ pub byte-div : (n k j : ℕ) → byteOf (n / 2 ^ (8 * k)) j ≡ byteOf n (k + j)
 byte-div n k j =
     let e : 8 * k + 8 * j ≡ 8 * (k + j) = omega arith in
     ap (λ (z : ℕ). z % 256) (shr-shr n (8 * k) (8 * j)) ∙ ap (λ (z : ℕ). n / 2 ^ z % 256) e
-
--- the first k values of f stored one behind the other
-unfoldable pub stores : ℕ → (ℕ → ℕ) → ℕ → List ℕ → List ℕ
-stores zero f from xs = xs
-stores (suc k) f from xs = set (stores k f from xs) (from + k) (f k)
-
--- ---- what was put
-
-put-none : (f : ℕ → ℕ) (from : ℕ) (xs : List ℕ) → Put f 0 from xs xs
-put-none f from xs = record { long = refl; here = λ j l. absurd (omega arith); below = λ i l. refl }
-
--- functions that agree below k put the same
-pub put-ext : {f g : ℕ → ℕ} {k from : ℕ} {before after : List ℕ} → Put g k from before after → ((j : ℕ) → j < k → g j ≡ f j)
-    → Put f k from before after
-put-ext P same = record { long = P .long; here = λ j l. P .here j l ∙ same j l; below = P .below }
-
--- one value
-put-one : (f : ℕ → ℕ) (from v : ℕ) (xs : List ℕ) → from < length xs → v ≡ f 0 → Put f 1 from xs (set xs from v)
-put-one f from v xs l e = record {
-  long = length-set xs from v;
-  here = λ j m.
-      let first : j ≡ 0 = omega arith in
-      rw (first, add-zero from) (getD-set-same xs from v 0 l ∙ e);
-  below = λ i m. getD-set-other xs from i v 0 (λ q. omega arith);
-}
-
--- k values more, behind the first m
-pub put-append : {f g : ℕ → ℕ} {m k from at : ℕ} {before xs after : List ℕ} → Put f m from before xs → Put g k at xs after → at ≡ from + m
-    → ((j : ℕ) → j < k → g j ≡ f (m + j)) → Put f (m + k) from before after
-put-append {f} {g} {m} {k} {from} {at} {before} {xs} {after} P Q behind same = record {
-  long = Q .long ∙ P .long;
-  here = λ j l. elim (decLt j m) [
-    | yes b ↦ Q .below (from + j) (omega arith) ∙ P .here j b
-    | no b ↦
-        let place : from + j ≡ at + (j - m) = omega arith in
-        let value : m + (j - m) ≡ j = omega arith in
-        ap (λ (i : ℕ). getD after i 0) place ∙ Q .here (j - m) (omega arith) ∙ same (j - m) (omega arith) ∙ ap f value
-  ];
-  below = λ i l. Q .below i (omega arith) ∙ P .below i l;
-}
-
--- values stored one behind the other
-pub put-stores : (k : ℕ) (f : ℕ → ℕ) (from : ℕ) (xs : List ℕ) → from + k ≤ length xs → Put f k from xs (stores k f from xs)
-unfolding stores
-put-stores zero f from xs l = put-none f from xs
-put-stores (suc k) f from xs l =
-    let P = put-stores k f from xs (omega arith) in
-    let more : k + 1 ≡ suc k = omega arith in
-    let here : f (k + 0) ≡ f k = ap f (add-zero k) in
-    rw more at
-    (put-append P (put-one (λ j. f (k + j)) (from + k) (f k) (stores k f from xs) (omega (arith, P .long)) (sym here)) refl (λ j m. refl))
-
--- a front that is filled further
-pub filling-put : {f g : ℕ → ℕ} {size k i : ℕ} {before after : List ℕ} → Filling f size i before → Put g k i before after
-    → ((j : ℕ) → j < k → g j ≡ f (i + j)) → Filling f size (i + k) after
-filling-put {f} {g} {size} {k} {i} {before} {after} F P same = record {
-  long = P .long ∙ F .long;
-  filled = λ x l. elim (decLt x i) [
-    | yes b ↦ P .below x b ∙ F .filled x b
-    | no b ↦
-        let place : i + (x - i) ≡ x = omega arith in
-        ap (λ (y : ℕ). getD after y 0) (sym place) ∙ P .here (x - i) (omega arith) ∙ same (x - i) (omega arith) ∙ ap f place
-  ];
-}
 
 -- ---- the numbers of lines
 

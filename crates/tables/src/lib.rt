@@ -1,11 +1,11 @@
 // Table sets: the form of a file, and the lines of a set.
-mod eight;
+mod by_number;
 mod lines;
 mod opening;
-mod sixteen;
 
 use bits::Cursor;
-pub use eight::eight_sources;
+pub use by_number::eight_sources;
+pub use by_number::sixteen_sources;
 pub use lines::address_in;
 pub use lines::cursor_at;
 pub use lines::numbered;
@@ -16,7 +16,6 @@ pub use opening::open;
 pub use opening::shape_of;
 pub use opening::test_limits;
 use refusal::Refusal;
-pub use sixteen::sixteen_sources;
 
 // What a checked header says of a set.
 pub struct Shape {

@@ -8,7 +8,7 @@ use lib.ListN.{length, getD}
 use Rattle.limits.specs.Limits.{mostWidth, mostSwitches}
 use Rattle.laws.specs.Any.{any}
 use Rattle.laws.specs.Sum.{hits}
-use Rattle.laws.specs.Tabulate.{tabulate}
+use Rattle.laws.specs.Tabulate.{tabulate, Put}
 use Rattle.bits.specs.Bits.{digit, bit, field}
 use Rattle.bits.specs.Reading.{onward}
 use Rattle.bits.specs.declared.reader.Cursor.{Cursor}
@@ -30,13 +30,7 @@ unfoldable pub bytesOf : ℕ → (ℕ → ℕ) → ℕ
 bytesOf zero f = 0
 bytesOf (suc k) f = f 0 + 256 * bytesOf k (λ j. f (suc j))
 
--- the first k values of f stand from place `from` on, and what lies before them is as it was
-pub record Put (f : ℕ → ℕ) (k from : ℕ) (before after : List ℕ) : Type 0 where
-  pub long : length after ≡ length before
-  pub here : (j : ℕ) → j < k → getD after (from + j) 0 ≡ f j
-  pub below : (i : ℕ) → i < from → getD after i 0 ≡ getD before i 0
-
--- the same of the k binary digits of a number, the highest first
+-- the k binary digits of a number are put, the highest first
 abbrev pub Spread : ℕ → ℕ → ℕ → List ℕ → List ℕ → Type 0
 Spread number k from before after = Put (λ j. digit number (k - suc j)) k from before after
 

@@ -4,7 +4,7 @@ use mathlib.Core.Path.{refl}
 use native.Mathlib.Omega.{arith}
 use borrow.Author.Needs.{needs}
 use Rattle.tables.proofs.Cursors.{room-less}
-use Rattle.tables.proofs.ByValue.{eight-count, sixteen-count, number-bits, number-sends}
+use Rattle.tables.proofs.ByNumber.{eight-count, sixteen-count, number-bits, number-sends}
 use Rattle.tables.proofs.Opens.{shape-same}
 use Rattle.tables.proofs.Passes.{line-fits, line-sized}
 use Rattle.machine.proofs.stepping.carry.Statement.{statement}

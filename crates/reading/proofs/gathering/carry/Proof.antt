@@ -3,7 +3,7 @@
 use native.Mathlib.Omega.{arith}
 use borrow.Author.Needs.{needs}
 use Rattle.tables.proofs.Cursors.{room-less}
-use Rattle.tables.proofs.ByValue.{eight-count, sixteen-count, number-bits, number-sends}
+use Rattle.tables.proofs.ByNumber.{eight-count, sixteen-count, number-bits, number-sends}
 use Rattle.tables.proofs.Opens.{shape-same}
 use Rattle.tables.proofs.Passes.{line-fits, line-sized}
 use Rattle.reading.proofs.gathering.carry.Statement.{statement}

@@ -5,7 +5,8 @@ use native.Mathlib.Omega.{arith}
 use borrow.Author.Needs.{needs}
 use Rattle.limits.specs.Limits.{mostWidth}
 use Rattle.laws.proofs.Tabulates.{Filling}
-use Rattle.tables.proofs.Puts.{eightFrom, eight-first, eight-next, eight-lt, byte-eight, filling-put}
+use Rattle.laws.proofs.Puts.{filling-put}
+use Rattle.tables.proofs.Puts.{eightFrom, eight-first, eight-next, eight-lt, byte-eight}
 use Rattle.tables.proofs.lines.number.Statement.{statement}
 use Rattle.tables.proofs.lines.number.Tie as tie
 

@@ -2,7 +2,8 @@
 use mathlib.Core.Path.{refl}
 use native.Mathlib.Omega.{arith}
 use borrow.Author.Needs.{needs}
-use Rattle.tables.proofs.Puts.{byte-mod, byte-div, put-ext, put-append}
+use Rattle.laws.proofs.Puts.{put-ext, put-append}
+use Rattle.tables.proofs.Puts.{byte-mod, byte-div}
 use Rattle.tables.proofs.lines.put_eight.Statement.{statement}
 use Rattle.tables.proofs.lines.put_eight.Tie as tie
 

@@ -4,7 +4,7 @@ use native.Mathlib.Omega.{arith}
 use borrow.Author.Needs.{needs}
 use lib.ListN.{length-set}
 use Rattle.tables.specs.inner.Lines.{byteOf}
-use Rattle.tables.proofs.Puts.{stores, put-stores}
+use Rattle.laws.proofs.Puts.{stores, put-stores}
 use Rattle.tables.proofs.lines.put_four.Statement.{statement}
 use Rattle.tables.proofs.lines.put_four.Tie as tie
 
