@@ -45,7 +45,7 @@ extern "C" {
 
 /* The version of this header. RUGHTENA_VERSION is one number, which grows with each version. */
 #define RUGHTENA_VERSION_MAJOR 0
-#define RUGHTENA_VERSION_MINOR 8
+#define RUGHTENA_VERSION_MINOR 9
 #define RUGHTENA_VERSION_PATCH 0
 #define RUGHTENA_VERSION (RUGHTENA_VERSION_MAJOR * 10000 + RUGHTENA_VERSION_MINOR * 100 + RUGHTENA_VERSION_PATCH)
 

@@ -59,7 +59,7 @@ pub struct ReadAnswer {
 }
 
 // major * 10000 + minor * 100 + patch
-const VERSION: usize = 800;
+const VERSION: usize = 900;
 
 // Generating a table set; the value is the file's length in bytes.
 #[no_mangle]
