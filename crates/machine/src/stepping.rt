@@ -30,6 +30,7 @@ use tables::Shape;
 use tables::address_in;
 use tables::cursor_at;
 use tables::eight_sources;
+use tables::four_sources;
 use tables::open;
 use tables::sixteen_sources;
 use tables::sources;
@@ -97,6 +98,9 @@ fn carry(bytes: &[u8], cursor: Cursor, shape: Shape, standing: &mut [u8]) -> Pas
     }
     if shape.lines == 16 {
         return sixteen_sources(bytes, cursor, standing);
+    }
+    if shape.lines == 4 {
+        return four_sources(bytes, cursor, standing);
     }
     let mut setting = [0u8; MOST_SWITCHES];
     sources(

@@ -38,6 +38,7 @@ use tables::Shape;
 use tables::address_in;
 use tables::cursor_at;
 use tables::eight_sources;
+use tables::four_sources;
 use tables::open;
 use tables::sixteen_sources;
 use tables::sources;
@@ -141,6 +142,9 @@ fn carry(
     }
     if shape.lines == 16 {
         return sixteen_sources(bytes, cursor, standing);
+    }
+    if shape.lines == 4 {
+        return four_sources(bytes, cursor, standing);
     }
     sources(
         bytes,

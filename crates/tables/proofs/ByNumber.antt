@@ -41,7 +41,11 @@ sources-carried d top {file} {standing} {at} {number} count e long C =
     bit-field file at (top + 1) i (omega arith) ∙ ap (λ (z : ℕ). digit z (top + 1 - suc i)) (sym e) ∙ ap (digit number) place) in
     record { long = long; each = same .each }
 
--- the bits of eight lines, and of sixteen
+-- the bits of four lines, of eight and of sixteen
+pub four-count : 5 ≡ bitCount 2
+unfolding bitCount
+four-count = refl
+
 pub eight-count : 17 ≡ bitCount 3
 unfolding bitCount
 eight-count = refl

@@ -1,4 +1,4 @@
-// Networks of eight and of sixteen lines by a number: their switch bits are taken as one field. Only our own crates call these functions, so they
+// Networks of four, eight and sixteen lines by a number: their switch bits are taken as one field. Only our own crates call these functions, so they
 // may have a `requires`.
 ghost use mathlib.Core.Path.{_≡_};
 ghost use Prim.Native.Nat.{_+_, _≤_};
@@ -13,13 +13,33 @@ use crate::Pass;
 use bits::Cursor;
 use unrolled::carry_eight;
 use unrolled::carry_sixteen;
+use unrolled::put_four;
 use unrolled::put_sixteen;
+
+// The switch bits of a network of four lines.
+const FOUR_BITS: usize = 5;
 
 // The switch bits of a network of eight lines.
 const EIGHT_BITS: usize = 17;
 
 // The switch bits of a network of sixteen lines.
 const SIXTEEN_BITS: usize = 49;
+
+// What `sources` leaves of a network of four lines (`number-same`), whose bits are taken as one field.
+pub fn four_sources(file: &[u8], cursor: Cursor, standing: &mut [u8]) -> Pass
+    requires { ⌜ (8 ≤ length (now file)) × Room cursor 5 × (length (now standing) ≡ mostWidth) ⌝ }
+    ensures { λ r. ⌜ (r .cursor ≡ onward cursor 5) × (r .crossed ≡ hits 5 (λ i. bit (now (file .entry)) (cursor .at + i)) 1)
+        × Sources 2 (now (file .entry)) (cursor .at) (now (standing .exit)) ⌝ }
+{
+    let taken = bits::next_field(file, cursor, FOUR_BITS);
+    put_four(taken.value, standing);
+    let crossed = u64::count_ones(taken.value) as usize;
+    let behind = taken.rest;
+    Pass {
+        cursor: behind,
+        crossed,
+    }
+}
 
 // What `sources` leaves of a network of eight lines (`number-same`), whose bits are taken as one field.
 pub fn eight_sources(file: &[u8], cursor: Cursor, standing: &mut [u8]) -> Pass

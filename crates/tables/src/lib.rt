@@ -5,6 +5,7 @@ mod opening;
 
 use bits::Cursor;
 pub use by_number::eight_sources;
+pub use by_number::four_sources;
 pub use by_number::sixteen_sources;
 pub use lines::address_in;
 pub use lines::cursor_at;

@@ -177,6 +177,13 @@ pub carried-ext : {d : ℕ} {f before behind : ℕ → ℕ} (g : ℕ → ℕ) �
     → Carried d g before behind
 carried-ext {d} {f} {before} {behind} g C same = record { each = λ x l. ap behind (leaves-ext d g f same x l) ∙ C .each x l }
 
+-- lines that enter with their own numbers
+pub carried-numbers : {bits behind : ℕ → ℕ} → Carried 2 bits (lineOf (record { first = 0; second = 1; third = 2; fourth = 3 })) behind
+    → Carried 2 bits (λ x. x) behind
+carried-numbers C = record {
+  each = λ x l. C .each x l ∙ to-four (λ j. lineOf (record { first = 0; second = 1; third = 2; fourth = 3 }) j ≡ j) refl refl refl refl x l;
+}
+
 -- what was stored as it stood
 pub carried-stored : {d : ℕ} {bits before behind : ℕ → ℕ} (standing : List ℕ) → Carried d bits before behind
     → ((y : ℕ) → y < 2 ^ d → getD standing y 0 ≡ behind y) → Carried d bits before (λ y. getD standing y 0)

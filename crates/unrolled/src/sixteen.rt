@@ -169,7 +169,7 @@ pub fn carry_sixteen(number: u64) -> Sixteen
 }
 
 // Stores what stands on four lines from `standing[from]` on.
-fn put_lines(standing: &mut [u8], from: usize, lines: Four)
+pub fn put_lines(standing: &mut [u8], from: usize, lines: Four)
     requires { ⌜ (length (now standing) ≡ mostWidth) × (from + 4 ≤ mostWidth) ⌝ }
     ensures { λ _. ⌜ Put (lineOf lines) 4 from (now (standing .entry)) (now (standing .exit)) ⌝ }
 {
