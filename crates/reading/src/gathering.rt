@@ -320,6 +320,19 @@ fn read_by(
     }
 }
 
+// The most words of a small set: to fill arrays for more takes longer than to read it.
+const SMALL_WORDS: usize = 64;
+
+// Reads the lines of a small set, by arrays for as many words.
+fn read_small(file: &[u8], shape: Shape, images: &mut [u16]) -> Reading
+    requires { ⌜ Shaped shape × (shape .words ≤ length (now images)) × (shape .words ≤ 64) ⌝ }
+    ensures { λ r. ⌜ readOutcome r (now (images .exit)) ≡ readScan (shape .words) (shape .width) (now (file .entry)) (now (images .entry)) ⌝ }
+{
+    let mut place_of = [NO_WORD; SMALL_WORDS];
+    let mut word_of = [NO_WORD; SMALL_WORDS];
+    read_by(file, shape, &mut place_of, &mut word_of, images)
+}
+
 // Reads the lines of a set of the short form, by arrays for as many words: those for the longest frame would take longer to fill than a small
 // set takes to read.
 fn read_short(file: &[u8], shape: Shape, images: &mut [u16]) -> Reading
@@ -365,6 +378,9 @@ fn read_set(file: &[u8], shape: Shape, images: &mut [u16], scratch: &[u16]) -> R
     }
     if scratch.len() < 2 * words {
         return Reading::Refused(Refusal::BufferShort);
+    }
+    if words <= SMALL_WORDS {
+        return read_small(file, shape, images);
     }
     if words <= SHORT_WORDS {
         return read_short(file, shape, images);

@@ -1,4 +1,4 @@
--- `reading::gathering::read_set` meets its contract: each return stands at its place in the definition, and both sizes of arrays read alike.
+-- `reading::gathering::read_set` meets its contract: each return stands at its place in the definition, and all sizes of arrays read alike.
 use mathlib.Core.Path.{_≡_, refl}
 use borrow.Author.Needs.{needs}
 use Rattle.laws.proofs.Choices.{ifLt-yes, ifLt-no}
@@ -28,23 +28,32 @@ returns-2 : tie.Need-returns-2
 unfolding readLines
 returns-2 c = ifLt-no _ _ _ _ _ (c .before .if1 .left) (ifLt-yes _ _ _ _ _ (c .if2 .taken) refl)
 
-read-short-requires : tie.Need-read-short-requires
-read-short-requires c κs = search needs
+read-small-requires : tie.Need-read-small-requires
+read-small-requires c κs = search needs
 
 same-length : tie.Need-same-length
 same-length c = search needs
 
 returns-3 : tie.Need-returns-3
-returns-3 c = let r : tie.After-read-short = c .before .before in roomy (r .before .before .before) (r .read-short .ensures)
+returns-3 c = let r : tie.After-read-small = c .before .before in roomy (r .before .before .before) (r .read-small .ensures)
 
-read-roomy-requires : tie.Need-read-roomy-requires
-read-roomy-requires c κs = search needs
+read-short-requires : tie.Need-read-short-requires
+read-short-requires c κs = search needs
 
 same-length-2 : tie.Need-same-length-2
 same-length-2 c = search needs
 
 returns-4 : tie.Need-returns-4
-returns-4 c = let r : tie.After-read-roomy = c .before .before in roomy (r .before .before .before) (r .read-roomy .ensures)
+returns-4 c = let r : tie.After-read-short = c .before .before in roomy (r .before .before .before .before) (r .read-short .ensures)
+
+read-roomy-requires : tie.Need-read-roomy-requires
+read-roomy-requires c κs = search needs
+
+same-length-3 : tie.Need-same-length-3
+same-length-3 c = search needs
+
+returns-5 : tie.Need-returns-5
+returns-5 c = let r : tie.After-read-roomy = c .before .before in roomy (r .before .before .before .before) (r .read-roomy .ensures)
 
 pub read-set-spec : {M : Type 1} → statement M
 read-set-spec =
@@ -53,9 +62,12 @@ read-set-spec =
     returns
     mul-if2
     returns-2
-    read-short-requires
+    read-small-requires
     same-length
     returns-3
-    read-roomy-requires
+    read-short-requires
     same-length-2
-    returns-4)
+    returns-4
+    read-roomy-requires
+    same-length-3
+    returns-5)
