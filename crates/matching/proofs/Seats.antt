@@ -23,7 +23,8 @@ use Rattle.matching.proofs.Completing.{partial-perfect}
 module _ {E : ℕ → ℕ → Type 0} {w : ℕ} {keys : List ℕ} where
   -- no bank is seated yet
   pub seating-none : {owner seats : List ℕ} {free : ℕ} → w ≤ mostWidth → length owner ≡ mostWidth → length seats ≡ mostWidth
-      → ((k : ℕ) → k < w → getD owner k 0 ≡ unowned) → ((d : ℕ) → d < w → getD seats d 0 < mostWidth) → Collects free w (λ k. k < w) → Seating E w keys owner seats 0 free 0
+      → ((k : ℕ) → k < w → getD owner k 0 ≡ unowned) → ((d : ℕ) → d < w → getD seats d 0 < mostWidth)
+      → Collects free w (λ k. k < w) → Seating E w keys owner seats 0 free 0
   seating-none few long seats-long none below C = record {
     long = long;
     in-turn = record { long = seats-long; few = below; least = λ d k l. absurd (omega arith) };

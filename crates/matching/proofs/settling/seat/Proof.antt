@@ -24,7 +24,8 @@ below-requires : tie.Need-below-requires Inv-loop μ-loop
 below-requires c κs = search needs
 
 loop-holds : tie.Need-loop-holds Inv-loop μ-loop
-loop-holds c = let p = c .before .before .pre in (omega arith, seating-none (p .0 .0 .few) (p .1 .0 .0) (p .1 .0 .1) (p .1 .1 .0) (p .1 .1 .1) (c .below .ensures))
+loop-holds c =
+    let p = c .before .before .pre in (omega arith, seating-none (p .0 .0 .few) (p .1 .0 .0) (p .1 .0 .1) (p .1 .1 .0) (p .1 .1 .1) (c .below .ensures))
 
 mul-ports : tie.Need-mul-ports Inv-loop μ-loop
 mul-ports c = search needs
