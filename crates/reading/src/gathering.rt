@@ -1,17 +1,16 @@
-// Reading a set: one pass over its lines, by a cursor that is carried on from line to line. The permutation is gathered in arrays of the
-// call's own, and written after the last line.
+// One pass over the lines of a set, by a cursor that is carried on from line to line. The permutation is gathered in arrays that are lent. This module
+// is private to the crate, so its functions may have a `requires`.
 ghost use mathlib.Core.Path.{_≡_};
 ghost use mathlib.Core.List.{List};
 ghost use Prim.Native.Nat.{ℕ, _*_, _<_, _≤_};
 ghost use lib.ListN.{length, getD};
-ghost use Rattle.limits.specs.Limits.{mostWords, shortWords, mostWidth, mostSwitches};
+ghost use Rattle.limits.specs.Limits.{mostWidth, mostSwitches};
 ghost use Rattle.laws.specs.Permutation.{inverse};
-ghost use Rattle.laws.specs.Tabulate.{overwrite};
 ghost use Rattle.bits.specs.inner.Taking.{Room, WithZeros};
 ghost use Rattle.tables.specs.Terms.{lineBits};
 ghost use Rattle.tables.specs.Format.{Shaped, lineAt};
 ghost use Rattle.tables.specs.inner.Lines.{Sends};
-ghost use Rattle.reading.specs.Reading.{contentsOf, readOutcome, readScan, readLines, readOf};
+ghost use Rattle.reading.specs.Reading.{contentsOf, readOutcome, readLines};
 ghost use Rattle.reading.specs.declared.Contents.{Contents};
 ghost use Rattle.reading.specs.declared.Reading.the-variants.{Read};
 ghost use Rattle.reading.specs.inner.Gathering.{Unmarked, Gather, Gathers, Passes, GathersAll};
@@ -51,7 +50,7 @@ enum Tested {
 }
 
 // What they say of all lines, with what the pass over these leaves beside the marks.
-enum Gathered {
+pub enum Gathered {
     All(Pass),
     Refused(Refusal),
 }
@@ -236,7 +235,7 @@ fn gather_line(
 }
 
 // The place of each word and the word of each place, over all lines. The arrays hold no marks at first.
-fn gather(file: &[u8], shape: Shape, places: &mut [u16], words: &mut [u16]) -> Gathered
+pub fn gather(file: &[u8], shape: Shape, places: &mut [u16], words: &mut [u16]) -> Gathered
     requires { ⌜ Shaped shape ⌝ }
     requires { ⌜ Gather (shape .words) (shape .width) (now file) 0 (now places) (now words) ⌝ }
     ensures { λ r. ⌜ GathersAll (shape .words) (shape .width) (now (file .entry)) r (now (places .exit)) (now (words .exit)) ⌝ }
@@ -274,20 +273,8 @@ fn gather(file: &[u8], shape: Shape, places: &mut [u16], words: &mut [u16]) -> G
     Gathered::All(Pass { cursor, crossed })
 }
 
-// The first n images become the places.
-fn write_images(places: &[u16], images: &mut [u16], n: usize)
-    requires { ⌜ (n ≤ length (now places)) × (n ≤ length (now images)) ⌝ }
-    ensures { λ _. ⌜ now (images .exit) ≡ overwrite n (λ i. getD (now (places .entry)) i 0) (now (images .entry)) ⌝ }
-{
-    let mut i = 0;
-    while i < n {
-        images[i] = places[i];
-        i += 1;
-    }
-}
-
 // What an accepted reading returns, from what the pass over all lines left. It says the same of every file that the pass was over.
-fn contents_of(shape: Shape, pass: Pass) -> Contents
+pub fn contents_of(shape: Shape, pass: Pass) -> Contents
     ensures { λ r. ⌜ ((file : List ℕ) → Passes (shape .words) (shape .width) file pass → r ≡ contentsOf (shape .words) (shape .width) file) ⌝ }
 {
     Contents {
@@ -295,106 +282,6 @@ fn contents_of(shape: Shape, pass: Pass) -> Contents
         width: shape.width,
         line_bits: pass.cursor.handed,
         crossed: pass.crossed,
-    }
-}
-
-// Reads the lines of a set, by two lent arrays that hold no marks.
-fn read_by(
-    file: &[u8],
-    shape: Shape,
-    places: &mut [u16],
-    words: &mut [u16],
-    images: &mut [u16],
-) -> Reading
-    requires { ⌜ Shaped shape × (shape .words ≤ length (now images)) ⌝ }
-    requires { ⌜ Unmarked (shape .words) (now places) × Unmarked (shape .words) (now words) ⌝ }
-    ensures { λ r. ⌜ readOutcome r (now (images .exit)) ≡ readScan (shape .words) (shape .width) (now (file .entry)) (now (images .entry)) ⌝ }
-{
-    // As a part, the file's place and length are numbers of this call and not fields that each line loads anew.
-    match gather(&file[..file.len()], shape, places, words) {
-        Gathered::Refused(refusal) => Reading::Refused(refusal),
-        Gathered::All(pass) => {
-            write_images(places, images, shape.words);
-            Reading::Read(contents_of(shape, pass))
-        }
-    }
-}
-
-// The most words of a small set: to fill arrays for more takes longer than to read it.
-const SMALL_WORDS: usize = 64;
-
-// Reads the lines of a small set, by arrays for as many words.
-fn read_small(file: &[u8], shape: Shape, images: &mut [u16]) -> Reading
-    requires { ⌜ Shaped shape × (shape .words ≤ length (now images)) × (shape .words ≤ 64) ⌝ }
-    ensures { λ r. ⌜ readOutcome r (now (images .exit)) ≡ readScan (shape .words) (shape .width) (now (file .entry)) (now (images .entry)) ⌝ }
-{
-    let mut place_of = [NO_WORD; SMALL_WORDS];
-    let mut word_of = [NO_WORD; SMALL_WORDS];
-    read_by(file, shape, &mut place_of, &mut word_of, images)
-}
-
-// Reads the lines of a set of the short form, by arrays for as many words: those for the longest frame would take longer to fill than a small
-// set takes to read.
-fn read_short(file: &[u8], shape: Shape, images: &mut [u16]) -> Reading
-    requires { ⌜ Shaped shape × (shape .words ≤ length (now images)) × (shape .words ≤ shortWords) ⌝ }
-    ensures { λ r. ⌜ readOutcome r (now (images .exit)) ≡ readScan (shape .words) (shape .width) (now (file .entry)) (now (images .entry)) ⌝ }
-{
-    let mut place_of = [NO_WORD; SHORT_WORDS];
-    let mut word_of = [NO_WORD; SHORT_WORDS];
-    read_by(file, shape, &mut place_of, &mut word_of, images)
-}
-
-// Reads the lines of any set.
-fn read_long(file: &[u8], shape: Shape, images: &mut [u16]) -> Reading
-    requires { ⌜ Shaped shape × (shape .words ≤ length (now images)) ⌝ }
-    ensures { λ r. ⌜ readOutcome r (now (images .exit)) ≡ readScan (shape .words) (shape .width) (now (file .entry)) (now (images .entry)) ⌝ }
-{
-    let mut place_of = [NO_WORD; MOST_WORDS];
-    let mut word_of = [NO_WORD; MOST_WORDS];
-    read_by(file, shape, &mut place_of, &mut word_of, images)
-}
-
-// Reads the lines of a long set, by arrays with room for them: first it is asked for `room` words. It calls itself for more, because a compiler
-// does not join the stack of such a function with that of its caller: so a short set does not pay for the arrays of long ones.
-fn read_roomy(file: &[u8], shape: Shape, images: &mut [u16], room: usize) -> Reading
-    requires { ⌜ Shaped shape × (shape .words ≤ length (now images)) × (room ≤ mostWords) ⌝ }
-    ensures { λ r. ⌜ readOutcome r (now (images .exit)) ≡ readScan (shape .words) (shape .width) (now (file .entry)) (now (images .entry)) ⌝ }
-{
-    if room < shape.words {
-        return read_roomy(file, shape, images, MOST_WORDS);
-    }
-    read_long(file, shape, images)
-}
-
-// Reads a set of the right form.
-fn read_set(file: &[u8], shape: Shape, images: &mut [u16], scratch: &[u16]) -> Reading
-    requires { ⌜ Shaped shape ⌝ }
-    ensures { λ r. ⌜ readOutcome r (now (images .exit))
-        ≡ readLines (shape .words) (shape .width) (now (file .entry)) (now (images .entry)) (now (scratch .entry)) ⌝ }
-{
-    let words = shape.words;
-    if images.len() < words {
-        return Reading::Refused(Refusal::BufferShort);
-    }
-    if scratch.len() < 2 * words {
-        return Reading::Refused(Refusal::BufferShort);
-    }
-    if words <= SMALL_WORDS {
-        return read_small(file, shape, images);
-    }
-    if words <= SHORT_WORDS {
-        return read_short(file, shape, images);
-    }
-    read_roomy(file, shape, images, SHORT_WORDS)
-}
-
-// Reads a set: what it contains, and the permutation that it performs in the first n images. Scratch is lent and not written.
-pub fn read(file: &[u8], images: &mut [u16], scratch: &[u16]) -> Reading
-    ensures { λ r. ⌜ readOutcome r (now (images .exit)) ≡ readOf (now (file .entry)) (now (images .entry)) (now (scratch .entry)) ⌝ }
-{
-    match open(file) {
-        Opened::Refused(refusal) => Reading::Refused(refusal),
-        Opened::Set(shape) => read_set(file, shape, images, scratch),
     }
 }
 

@@ -1,7 +1,8 @@
 // Reading a table set: which permutation it performs, or why none.
+mod call;
 mod gathering;
 
-pub use gathering::read;
+pub use call::read;
 pub use gathering::read_leavers;
 use refusal::Refusal;
 

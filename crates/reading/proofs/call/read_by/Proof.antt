@@ -1,4 +1,4 @@
--- `reading::gathering::read_by` meets its contract: a line is refused, or all lines passed and what was gathered are the images.
+-- `reading::call::read_by` meets its contract: a line is refused, or all lines passed and what was gathered are the images.
 use Prim.Native.Nat.{ℕ}
 use mathlib.Core.Path.{sym, ap₂, subst, _∙_}
 use mathlib.Core.List.{List}
@@ -15,8 +15,8 @@ use Rattle.reading.specs.declared.Reading.the-variants.{Read, Refused}
 use Rattle.reading.specs.declared.gathering.Gathered.{Gathered}
 use Rattle.reading.specs.declared.gathering.Gathered.the-variants.{All}
 use Rattle.reading.proofs.Gathers.{gather-none, gather-images, gather-scan}
-use Rattle.reading.proofs.gathering.read_by.Statement.{statement}
-use Rattle.reading.proofs.gathering.read_by.Tie as tie
+use Rattle.reading.proofs.call.read_by.Statement.{statement}
+use Rattle.reading.proofs.call.read_by.Tie as tie
 
 -- ---- the places
 

@@ -1,9 +1,9 @@
--- `reading::gathering::read_long` meets its contract: its arrays have room for the frame and hold no marks.
+-- `reading::call::read_long` meets its contract: its arrays have room for the frame and hold no marks.
 use borrow.Author.Needs.{needs}
 use Rattle.limits.specs.Limits.{mostWords}
 use Rattle.reading.proofs.Gathers.{unmarked-made}
-use Rattle.reading.proofs.gathering.read_long.Statement.{statement}
-use Rattle.reading.proofs.gathering.read_long.Tie as tie
+use Rattle.reading.proofs.call.read_long.Statement.{statement}
+use Rattle.reading.proofs.call.read_long.Tie as tie
 
 slice-aggregate-read-by : tie.Need-slice-aggregate-read-by
 slice-aggregate-read-by c = search needs

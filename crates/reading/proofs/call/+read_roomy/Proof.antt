@@ -1,4 +1,4 @@
--- `reading::gathering::read_roomy` meets its contract. Its measure is what the room lacks of the longest frame: it calls itself with the most
+-- `reading::call::read_roomy` meets its contract. Its measure is what the room lacks of the longest frame: it calls itself with the most
 -- room, and only where there is less.
 use Prim.Native.Nat.{ℕ, _-_, _<_}
 use native.Mathlib.Omega.{arith}
@@ -6,12 +6,12 @@ use borrow.Author.Needs.{needs}
 use borrow.Fn.Kinds.{In}
 use borrow.Fn.PlainCycle.{Measures, is, falls, and}
 use Rattle.limits.specs.Limits.{mostWords}
-use Rattle.reading.proofs.gathering.read_roomy.Reads as read-roomy
-use Rattle.reading.proofs.gathering.read_roomy.Kinds as read-roomy-kinds
-use Rattle.reading.proofs.gathering.+read_roomy.Lts-read_roomy as read-roomy-lts
-use Rattle.reading.proofs.gathering.read_long.Reads as read-long-reads
-use Rattle.reading.proofs.gathering.+read_roomy.{statement}
-use Rattle.reading.proofs.gathering.+read_roomy.Tie.{close}
+use Rattle.reading.proofs.call.read_roomy.Reads as read-roomy
+use Rattle.reading.proofs.call.read_roomy.Kinds as read-roomy-kinds
+use Rattle.reading.proofs.call.+read_roomy.Lts-read_roomy as read-roomy-lts
+use Rattle.reading.proofs.call.read_long.Reads as read-long-reads
+use Rattle.reading.proofs.call.+read_roomy.{statement}
+use Rattle.reading.proofs.call.+read_roomy.Tie.{close}
 
 abbrev μ-read-roomy : Measures 2 read-roomy-kinds.ps ℕ
 μ-read-roomy κs a = mostWords - a .1 .1 .1 .0

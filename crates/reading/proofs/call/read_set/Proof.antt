@@ -1,10 +1,10 @@
--- `reading::gathering::read_set` meets its contract: each return stands at its place in the definition, and all sizes of arrays read alike.
+-- `reading::call::read_set` meets its contract: each return stands at its place in the definition, and all sizes of arrays read alike.
 use mathlib.Core.Path.{_≡_, refl}
 use borrow.Author.Needs.{needs}
 use Rattle.laws.proofs.Choices.{ifLt-yes, ifLt-no}
 use Rattle.reading.specs.Reading.{ReadOutcome, readScan, readLines}
-use Rattle.reading.proofs.gathering.read_set.Statement.{statement}
-use Rattle.reading.proofs.gathering.read_set.Tie as tie
+use Rattle.reading.proofs.call.read_set.Statement.{statement}
+use Rattle.reading.proofs.call.read_set.Tie as tie
 
 abbrev start : tie.Else2 → tie.Start
 start c = c .before .before .before .before .before

@@ -1,11 +1,11 @@
--- `reading::gathering::read` meets its contract: the file has no form of a set, or the set is read.
+-- `reading::call::read` meets its contract: the file has no form of a set, or the set is read.
 use mathlib.Core.Path.{sym, ap, _∙_}
 use borrow.Author.Needs.{needs}
 use Rattle.reading.specs.Reading.{ReadOutcome, readOpened, readOf}
 use Rattle.tables.specs.declared.Opened.{Opened}
 use Rattle.tables.proofs.Form.{opened-shape}
-use Rattle.reading.proofs.gathering.read.Statement.{statement}
-use Rattle.reading.proofs.gathering.read.Tie as tie
+use Rattle.reading.proofs.call.read.Statement.{statement}
+use Rattle.reading.proofs.call.read.Tie as tie
 
 open-requires : tie.Need-open-requires
 open-requires c κs = search needs

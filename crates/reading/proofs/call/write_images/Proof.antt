@@ -1,4 +1,4 @@
--- `reading::gathering::write_images` meets its contract: turn i fills image i.
+-- `reading::call::write_images` meets its contract: turn i fills image i.
 use Prim.Native.Nat.{ℕ, _-_, _≤_}
 use mathlib.Core.Path.{_≡_, ap, _∙_}
 use mathlib.Core.List.{List}
@@ -7,8 +7,8 @@ use borrow.Author.Needs.{needs}
 use lib.ListN.{length, getD, set}
 use Rattle.laws.specs.Tabulate.{overwrite}
 use Rattle.laws.proofs.Tabulates.{overwrite-none, overwrite-turn, length-overwrite}
-use Rattle.reading.proofs.gathering.write_images.Statement.{statement}
-use Rattle.reading.proofs.gathering.write_images.Tie as tie
+use Rattle.reading.proofs.call.write_images.Statement.{statement}
+use Rattle.reading.proofs.call.write_images.Tie as tie
 
 abbrev Inv-loop : tie.InvT-loop
 Inv-loop places images₀ n i₀ images i = (i ≤ n) × (images ≡ overwrite i (λ j. getD places j 0) images₀)
