@@ -11,7 +11,6 @@ use Rattle.laws.specs.Sum.{hits}
 use Rattle.laws.proofs.Permutations.{onto}
 use Rattle.laws.proofs.Sums.{hits-few}
 use Rattle.bits.specs.Bits.{digit, bit, field}
-use Rattle.bits.specs.Reading.{onward}
 use Rattle.bits.specs.declared.reader.Cursor.{Cursor}
 use Rattle.bits.specs.declared.reader.Field.{Field}
 use Rattle.bits.specs.inner.Taking.{fieldBehind}
@@ -23,7 +22,7 @@ use Rattle.passing.proofs.Routes.{sized-depth}
 use Rattle.unrolled.specs.inner.ByValue.{Carried}
 use Rattle.unrolled.proofs.ByValue.{carried-ext}
 use Rattle.tables.specs.Format.{Shaped}
-use Rattle.tables.specs.inner.Lines.{Sources, Sends}
+use Rattle.tables.specs.inner.Lines.{Sources, Sends, PassOver}
 use Rattle.tables.specs.declared.Pass.{Pass}
 use Rattle.tables.specs.declared.Shape.{Shape}
 use Rattle.tables.proofs.Opens.{shape-same}
@@ -64,8 +63,7 @@ module _ (top : ℕ) (file : List ℕ) (cursor : Cursor) {taken : Field} (e : ta
 
   pub field-passes : (d : ℕ) {standing : List ℕ} → top + 1 ≡ bitCount d → length standing ≡ mostWidth
       → Carried d (λ i. digit (taken .value) (top - i)) (λ x. x) (λ y. getD standing y 0)
-      → (taken .rest ≡ onward cursor (top + 1)) × (ones (taken .value) ≡ hits (top + 1) (λ i. bit file (cursor .at + i)) 1)
-      × Sources d file (cursor .at) standing
+      → PassOver d (top + 1) file cursor (record { cursor = taken .rest; crossed = ones (taken .value) }) standing
   field-passes d count long C =
       (ap (λ (x : Field). x .rest) e, field-ones, sources-carried d top count (ap (λ (x : Field). x .value) e) long C)
 
@@ -78,8 +76,7 @@ number-bits d count S wide = sized-depth d wide (line-sized (S .dims) (shape-sam
 -- what the number form gives, told as the general form tells it
 pub number-sends : (d : ℕ) {count : ℕ} {s : Shape} {file standing : List ℕ} {pass : Pass} (cursor : Cursor) → count ≡ bitCount d → Shaped s
     → s .lines ≡ 2 ^ d
-    → (pass .cursor ≡ onward cursor count) × (pass .crossed ≡ hits count (λ i. bit file (cursor .at + i)) 1) × Sources d file (cursor .at) standing
-    → Sends s file cursor pass standing
+    → PassOver d count file cursor pass standing → Sends s file cursor pass standing
 number-sends d cursor count S wide told = rw (number-bits d count S wide) (told .0, told .1, λ e D. rw (sized-depth d wide D .0) (told .2))
 
 -- both leave the same on the lines, whatever the bits

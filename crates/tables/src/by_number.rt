@@ -1,14 +1,11 @@
 // Networks of four, eight and sixteen lines by a number: their switch bits are taken as one field. Only our own crates call these functions, so they
 // may have a `requires`.
 ghost use mathlib.Core.Path.{_≡_};
-ghost use Prim.Native.Nat.{_+_, _≤_};
+ghost use Prim.Native.Nat.{_≤_};
 ghost use lib.ListN.{length};
 ghost use Rattle.limits.specs.Limits.{mostWidth};
-ghost use Rattle.laws.specs.Sum.{hits};
-ghost use Rattle.bits.specs.Bits.{bit};
-ghost use Rattle.bits.specs.Reading.{onward};
 ghost use Rattle.bits.specs.inner.Taking.{Room};
-ghost use Rattle.tables.specs.inner.Lines.{Sources};
+ghost use Rattle.tables.specs.inner.Lines.{PassOver};
 use crate::Pass;
 use bits::Cursor;
 use unrolled::carry_eight;
@@ -28,8 +25,7 @@ const SIXTEEN_BITS: usize = 49;
 // What `sources` leaves of a network of four lines (`number-same`), whose bits are taken as one field.
 pub fn four_sources(file: &[u8], cursor: Cursor, standing: &mut [u8]) -> Pass
     requires { ⌜ (8 ≤ length (now file)) × Room cursor 5 × (length (now standing) ≡ mostWidth) ⌝ }
-    ensures { λ r. ⌜ (r .cursor ≡ onward cursor 5) × (r .crossed ≡ hits 5 (λ i. bit (now (file .entry)) (cursor .at + i)) 1)
-        × Sources 2 (now (file .entry)) (cursor .at) (now (standing .exit)) ⌝ }
+    ensures { λ r. ⌜ PassOver 2 5 (now (file .entry)) cursor r (now (standing .exit)) ⌝ }
 {
     let taken = bits::next_field(file, cursor, FOUR_BITS);
     put_four(taken.value, standing);
@@ -44,8 +40,7 @@ pub fn four_sources(file: &[u8], cursor: Cursor, standing: &mut [u8]) -> Pass
 // What `sources` leaves of a network of eight lines (`number-same`), whose bits are taken as one field.
 pub fn eight_sources(file: &[u8], cursor: Cursor, standing: &mut [u8]) -> Pass
     requires { ⌜ (8 ≤ length (now file)) × Room cursor 17 × (length (now standing) ≡ mostWidth) ⌝ }
-    ensures { λ r. ⌜ (r .cursor ≡ onward cursor 17) × (r .crossed ≡ hits 17 (λ i. bit (now (file .entry)) (cursor .at + i)) 1)
-        × Sources 3 (now (file .entry)) (cursor .at) (now (standing .exit)) ⌝ }
+    ensures { λ r. ⌜ PassOver 3 17 (now (file .entry)) cursor r (now (standing .exit)) ⌝ }
 {
     let taken = bits::next_field(file, cursor, EIGHT_BITS);
     carry_eight(taken.value, standing);
@@ -60,8 +55,7 @@ pub fn eight_sources(file: &[u8], cursor: Cursor, standing: &mut [u8]) -> Pass
 // What `sources` leaves of a network of sixteen lines (`number-same`), whose bits are taken as one field.
 pub fn sixteen_sources(file: &[u8], cursor: Cursor, standing: &mut [u8]) -> Pass
     requires { ⌜ (8 ≤ length (now file)) × Room cursor 49 × (length (now standing) ≡ mostWidth) ⌝ }
-    ensures { λ r. ⌜ (r .cursor ≡ onward cursor 49) × (r .crossed ≡ hits 49 (λ i. bit (now (file .entry)) (cursor .at + i)) 1)
-        × Sources 4 (now (file .entry)) (cursor .at) (now (standing .exit)) ⌝ }
+    ensures { λ r. ⌜ PassOver 4 49 (now (file .entry)) cursor r (now (standing .exit)) ⌝ }
 {
     let taken = bits::next_field(file, cursor, SIXTEEN_BITS);
     put_sixteen(standing, carry_sixteen(taken.value));

@@ -50,6 +50,11 @@ Sends shape file cursor pass found =
     (pass .cursor ≡ onward cursor (shape .switches)) × (pass .crossed ≡ hits (shape .switches) (λ i. bit file (cursor .at + i)) 1)
     × ((d : ℕ) → Sized (shape .lines) (shape .switches) d → Sources d file (cursor .at) found)
 
+-- the same of a network of 2 ^ d lines with that many bits
+abbrev pub PassOver : ℕ → ℕ → List ℕ → Cursor → Pass → List ℕ → Type 0
+PassOver d count file cursor pass found =
+    (pass .cursor ≡ onward cursor count) × (pass .crossed ≡ hits count (λ i. bit file (cursor .at + i)) 1) × Sources d file (cursor .at) found
+
 -- a line below the width stands on a spare line
 unfoldable pub spareUsed : List ℕ → ℕ → ℕ → Bool
 spareUsed sources width lines = any (lines - width) (λ i. ltb (getD sources (width + i) 0) width)
