@@ -6,7 +6,7 @@ use Rattle.bits.specs.Bits.{field}
 use Rattle.tables.specs.Terms.{cycles, file_length}
 use Rattle.tables.specs.Format.{Shaped, line_at, filling, length_test}
 use Rattle.tables.specs.declared.Shape.{Shape}
-use Rattle.tables.specs.declared.Opened.TheVariants.{Set}
+use Rattle.std.specs.Prelude.{Ok}
 use Rattle.tables.proofs.Dims.{line_at-few, file_length-reaches, file_length-tight, file_length-header}
 use Rattle.tables.proofs.Header.{bytes-few}
 use Rattle.tables.proofs.Longest.{lines-longest, file_length-longest}
@@ -63,18 +63,18 @@ last_bits-requires c =
       omega (arith, end-known c.requires, long, file_length-tight shape.words shape.width),
     )
 
-pub returns-then-last_bits-eq0 : goal.returns-then-last_bits-eq0
-unfolding length_test
-returns-then-last_bits-eq0 c =
-    let long = c.file_length-length.ensures in
-    let filled = filling-known c.args.file.now c.requires long (omega arith) c.last_bits.ensures in
-    if_lt-no _ _ _ _ _ (rw long at c.if-file-length.false) (if_lt-no _ _ _ _ _ (rw long at c.if-length-file.false)
-    (if_eq-yes _ _ _ _ _ (rw filled at c.if-last_bits-eq0.true) (ap Set (shape_same c.requires))))
-
 pub returns : goal.returns
 unfolding length_test
 returns c =
     let long = c.file_length-length.ensures in
     let filled = filling-known c.args.file.now c.requires long (omega arith) c.last_bits.ensures in
     if_lt-no _ _ _ _ _ (rw long at c.if-file-length.false) (if_lt-no _ _ _ _ _ (rw long at c.if-length-file.false)
-    (if_eq-no _ _ _ _ _ (rw filled at c.if-last_bits-eq0.false) refl))
+    (if_eq-yes _ _ _ _ _ (rw filled at c.if-last_bits-ne0.false) (ap Ok (shape_same c.requires))))
+
+pub returns-then-last_bits-ne0 : goal.returns-then-last_bits-ne0
+unfolding length_test
+returns-then-last_bits-ne0 c =
+    let long = c.file_length-length.ensures in
+    let filled = filling-known c.args.file.now c.requires long (omega arith) c.last_bits.ensures in
+    if_lt-no _ _ _ _ _ (rw long at c.if-file-length.false) (if_lt-no _ _ _ _ _ (rw long at c.if-length-file.false)
+    (if_eq-no _ _ _ _ _ (rw filled at c.if-last_bits-ne0.true) refl))
