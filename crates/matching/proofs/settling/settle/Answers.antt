@@ -8,8 +8,8 @@ settle_bank-port-requires-clause-laid c =
     let r = c.requires.ranked in
     let i = c.loop-bank.invariant in
     let below = c.loop-bank-test.true in
-    let seat = seats-preferred c.args.seats.now c.loop-bank.bank i.1 c.with.ensures c.minus-unseated.ensures r.2 below in
-    (r.0, below, λ k h. (i.0.opened.inside k h).0, r.1, seat)
+    let seat = seats-preferred c.args.seats.now c.loop-bank.bank i.1 c.with.ensures c.minus-unseated.ensures r.1 below in
+    (below, λ k h. (i.0.opened.inside k h).0, r.0, seat)
 
 pub loop-bank-preserved : goal.loop-bank-preserved
 loop-bank-preserved c =

@@ -12,21 +12,20 @@ pub choose-port-requires-clause-fact : goal.choose-port-requires-clause-fact
 choose-port-requires-clause-fact c =
     let o = own-port (c.loop-layout.invariant.1 _ c.requires.by_index.1) in (
       λ e. and_none (get_or c.args.edges.now c.args.bank 0) c.loop-layout.hopeful e o.0 o.4 o.3,
-      c.requires.laid.1,
-      c.requires.laid.0,
+      c.requires.bank_lt_width.0,
     )
 
 pub choose-port-requires-clause-ranks : goal.choose-port-requires-clause-ranks
 choose-port-requires-clause-ranks c =
-    let r = c.requires.laid in
+    let r = c.requires.bank_lt_width in
     let S = c.loop-layout.invariant.1 _ c.requires.by_index.1 in
-    λ m. r.3 m c.args.bank _ r.1 (λ k h.
+    λ m. r.2 m c.args.bank _ r.0 (λ k h.
     let both = and_in (get_or c.args.edges.now c.args.bank 0) c.loop-layout.hopeful k h in
-    (r.2 k (S.fewer k both.1), both.0))
+    (r.1 k (S.fewer k both.1), both.0))
 
 pub choose-port-requires-clause-preferred : goal.choose-port-requires-clause-preferred
 choose-port-requires-clause-preferred c =
-    let seat = c.requires.laid.4 in
+    let seat = c.requires.bank_lt_width.3 in
     record {
       few = seat.few;
       gone = seat.gone;
