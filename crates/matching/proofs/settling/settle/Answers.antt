@@ -3,7 +3,7 @@ use Rattle.matching.proofs.Seats.{unseated-more, seats-preferred}
 use Rattle.matching.proofs.Settles.{placed-settling, placed-more}
 use Rattle.matching.proofs.settling.settle.Goals as goal
 
-pub settle_bank-port-requires-clause-bank_lt_width : goal.settle_bank-port-requires-clause-laid
+pub settle_bank-port-requires-clause-bank_lt_width : goal.settle_bank-port-requires-clause-bank_lt_width
 settle_bank-port-requires-clause-bank_lt_width c =
     let r = c.requires.ranked in
     let i = c.loop-bank.invariant in
