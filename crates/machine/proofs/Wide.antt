@@ -6,6 +6,7 @@ use mathlib.Core.Bool.{true, false}
 use mathlib.Core.List.{List}
 use native.Mathlib.Omega.{arith}
 use lib.ListN.{length, get_or}
+use Rattle.std.specs.Prelude.{Ok, Err}
 use Rattle.refusal.specs.declared.Refusal.TheVariants.{ReadAddress, SpareLine, WriteAddress}
 use Rattle.bits.specs.Reading.{onward}
 use Rattle.bits.specs.inner.Taking.{Room, WithZeros}
@@ -22,7 +23,6 @@ use Rattle.tables.proofs.Lined.{Line}
 use Rattle.tables.proofs.Opens.{shape_same}
 use Rattle.tables.proofs.Passes.{Fitting, line-fits}
 use Rattle.clock.specs.declared.Clock.{Clock}
-use Rattle.machine.specs.declared.stepping.Moved.TheVariants.{Crossed, Refused as Unmoved}
 use Rattle.machine.specs.inner.Ready.{InRange, line_outcome, move_of}
 use Rattle.machine.specs.inner.Rows.{spot_in, word_in, Outside, Taken, Sent, stored}
 use Rattle.machine.proofs.Taking.{reads-out, reads_in, writes-out, writes-in, words-sent, words-put}
@@ -71,7 +71,7 @@ module _ {shape : Shape} (S : Shaped shape) {clock : Clock} (G : InRange (cycles
 
   module _ (some : 1 ≤ clock.fill) {file bytes : List ℕ} (Z : WithZeros file bytes) (first second : List ℕ) where
     pub reads-fail : Outside (row_at bytes cursor.at shape.addressing) shape
-        → line_outcome (Unmoved (ReadAddress t)) second ≡ move_of n w file clock first second
+        → line_outcome (Err (ReadAddress t)) second ≡ move_of n w file clock first second
     reads-fail O =
         read-refused n w file clock first second some
         (reads-out S file t (subst (λ (x : List ℕ). Outside x shape) (read-row shape cursor t S Z at-line) O))
@@ -90,7 +90,7 @@ module _ {shape : Shape} (S : Shaped shape) {clock : Clock} (G : InRange (cycles
       spare = spare-held shape cursor t S Z at-line e N.2
 
       pub spare-fails : spare_used sources w shape.lines ≡ true
-          → line_outcome (Unmoved (SpareLine t)) second ≡ move_of n w file clock first second
+          → line_outcome (Err (SpareLine t)) second ≡ move_of n w file clock first second
       spare-fails u = carry-refused n w file clock first second some (reads_in S file t reads) (sym spare ∙ u)
 
       module _ (u : spare_used sources w shape.lines ≡ false) where
@@ -98,7 +98,7 @@ module _ {shape : Shape} (S : Shaped shape) {clock : Clock} (G : InRange (cycles
         behind = carried_on cursor row e shape.switches N.0
 
         pub writes-fail : Outside (row_at bytes pass.cursor.at shape.addressing) shape
-            → line_outcome (Unmoved (WriteAddress t)) second ≡ move_of n w file clock first second
+            → line_outcome (Err (WriteAddress t)) second ≡ move_of n w file clock first second
         writes-fail O =
             write-refused n w file clock first second some (reads_in S file t reads) (sym spare ∙ u)
             (writes-out S file t (subst (λ (x : List ℕ). Outside x shape) (write-row shape cursor t S Z at-line behind) O))
@@ -112,7 +112,7 @@ module _ {shape : Shape} (S : Shaped shape) {clock : Clock} (G : InRange (cycles
           line-sent long = words-sent S file clock G.half first line (sym spare ∙ u) reads writes second long
 
           pub line-put : {moved : List ℕ} → moved ≡ stored (λ k. get_or to k 0) (λ k. get_or got (get_or sources k 0) 0) w second
-              → line_outcome (Crossed pass.crossed) moved ≡ move_of n w file clock first second
+              → line_outcome (Ok pass.crossed) moved ≡ move_of n w file clock first second
           line-put put =
               line-moves n w file clock first second some (reads_in S file t reads) (sym spare ∙ u) (writes-in S file t writes)
               (crossings-held shape cursor t S Z at-line e N.1)

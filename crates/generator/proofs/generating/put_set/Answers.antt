@@ -4,7 +4,7 @@ use Rattle.laws.specs.Permutation.{Permutes}
 use Rattle.images.specs.Images.{order_of}
 use Rattle.bits.specs.inner.Writing.{whole_of}
 use Rattle.division.specs.Reciprocal.{Reciprocal}
-use Rattle.places.specs.Places.{Laid, Roomy}
+use Rattle.places.specs.Places.{Roomy}
 use Rattle.tables.specs.Header.{header_bits}
 use Rattle.tables.specs.Terms.{cycles, file_length}
 use Rattle.tables.specs.Format.{Shaped, line_at}
@@ -31,9 +31,6 @@ module _ {shape : Shape} (S : Shaped shape) where
   -- the places of a bank, rounded up to whole numbers
   roomy : Roomy ((shape.cycles + 63) / 64) (cycles n w)
   roomy = record { enough = omega (arith, S.cycles); tight = omega (arith, S.cycles) }
-
-  laid : {r : ℕ} → Reciprocal w r → Laid (record { width = w; reciprocal = r; per = (shape.cycles + 63) / 64 })
-  laid R = record { reciprocal = R; few = S.dims.narrow; room = laid-room S.dims roomy }
 
   -- line t stands where it is put, far from any overflow
   stands : (t : ℕ) → shape.start + t * shape.stride ≡ line_at n w t
@@ -62,10 +59,13 @@ module _ {shape : Shape} (S : Shaped shape) where
 pub overflow_add-layout : goal.overflow_add-layout
 overflow_add-layout c = let S = c.requires.shaped.0 in omega (arith, S.cycles, cycles-few S.dims)
 
-pub start_places-requires : goal.start_places-requires
-start_places-requires c =
+pub invariant_of-layout : goal.invariant_of-layout
+invariant_of-layout c =
     let S = c.requires.shaped.0 in
-    (laid S c.reciprocal.ensures, rw (sym S.cycles) at (roomy S))
+    record { some = S.dims.wide; few = S.dims.narrow; divides = c.reciprocal.ensures.is; room = laid-room S.dims (roomy S) }
+
+pub start_places-requires : goal.start_places-requires
+start_places-requires c = rw (sym c.requires.shaped.0.cycles) at (roomy c.requires.shaped.0)
 
 pub loop-t-init : goal.loop-t-init
 loop-t-init c =
@@ -74,7 +74,7 @@ loop-t-init c =
     let w = c.args.shape.width in
     let none : ℕ → ℕ → ℕ = λ _ _. 0 in
     record {
-      blank = blank-numbered w c.numbered-forward.ensures c.numbered-back.ensures;
+      blank = blank-numbered w (search rules, c.numbered-forward.ensures) (search rules, c.numbered-back.ensures);
       putting = record {
         opened = rw (line_at-zero n w) c.begin-held.ensures.0;
         lines = none;
@@ -87,11 +87,9 @@ loop-t-init c =
 pub take_line-requires-clause-ranked : goal.take_line-requires-clause-ranked
 take_line-requires-clause-ranked c =
     let S = c.requires.shaped.0 in
-    let P = c.loop-t.invariant.putting in (
-      laid S c.reciprocal.ensures,
-      λ m. ranked-unread c.args.images.now (due S c.requires.shaped.1 c.requires.by_index.0.1 c.requires.words_in_bounds.0 c.loop-t-test.true P.scheduled) (roomy S)
-          (P.unread m) _ refl refl m,
-    )
+    let P = c.loop-t.invariant.putting in
+    λ m. ranked-unread c.args.images.now _ (due S c.requires.shaped.1 c.requires.by_index.0.1 c.requires.words_in_bounds.0 c.loop-t-test.true P.scheduled)
+        (roomy S) (P.unread m) m
 
 pub plan_line-requires-clause-w_nonzero : goal.plan_line-requires-clause-w_nonzero
 plan_line-requires-clause-w_nonzero c =
@@ -107,11 +105,8 @@ plan_line-requires-clause-reciprocal c =
     (due S c.requires.shaped.1 c.requires.by_index.0.1 c.requires.words_in_bounds.0 c.loop-t-test.true c.loop-t.invariant.putting.scheduled) in
     (c.reciprocal.ensures, λ k l. omega (arith, T.inside k l, S.dims.few))
 
-pub drop_read-requires-clause-laid : goal.drop_read-requires-clause-laid
-drop_read-requires-clause-laid c = laid c.requires.shaped.0 c.reciprocal.ensures
-
-pub drop_read-requires-clause-left : goal.drop_read-requires-clause-left
-drop_read-requires-clause-left c =
+pub drop_read-requires : goal.drop_read-requires
+drop_read-requires c =
     let S = c.requires.shaped.0 in
     let T = c.take_line.ensures _ _ _ _
     (due S c.requires.shaped.1 c.requires.by_index.0.1 c.requires.words_in_bounds.0 c.loop-t-test.true c.loop-t.invariant.putting.scheduled) in

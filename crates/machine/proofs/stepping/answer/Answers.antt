@@ -1,5 +1,6 @@
 -- `answer`: the test is the definition's, the clock is the next one, and the count is the one given.
 use Rattle.std.proofs.Common.{ℕ, ◌≡◌, List, ap, ap₂, ◌∙◌, arith}
+use Rattle.std.specs.Prelude.{Ok}
 use Rattle.laws.proofs.Choices.{if_lt-yes, if_lt-no}
 use Rattle.tables.specs.Format.{Shaped}
 use Rattle.tables.specs.declared.Shape.{Shape}
@@ -23,9 +24,9 @@ next-is clock file S e counted = ap₂ advance (e ∙ ap (λ (z : ℕ). next_clo
 pub returns-then-clock-ge2 : goal.returns-then-clock-ge2
 unfolding says_of
 returns-then-clock-ge2 c file counted =
-    if_lt-no _ _ _ _ _ (omega (arith, c.if-clock-ge2.true)) (ap Wrote (next-is c.args.clock file c.requires c.next.ensures counted))
+    if_lt-no _ _ _ _ _ (omega (arith, c.if-clock-ge2.true)) (ap (λ (x : Advance). Ok (Wrote x)) (next-is c.args.clock file c.requires c.next.ensures counted))
 
 pub returns : goal.returns
 unfolding says_of
 returns c file counted =
-    if_lt-yes _ _ _ _ _ (omega (arith, c.if-clock-ge2.false)) (ap Filling (next-is c.args.clock file c.requires c.next.ensures counted))
+    if_lt-yes _ _ _ _ _ (omega (arith, c.if-clock-ge2.false)) (ap (λ (x : Advance). Ok (Filling x)) (next-is c.args.clock file c.requires c.next.ensures counted))

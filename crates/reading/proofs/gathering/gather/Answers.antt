@@ -1,5 +1,6 @@
 -- `gather`: a line is refused, which stops the scan there, or the scan goes on behind it, by the cursor that stands there.
 use Rattle.std.proofs.Common.{ℕ, ◌+◌, ◌<◌, ◌≤◌, ◌≡◌, refl, sym, ap, ap₂, ◌∙◌, add-one, arith}
+use Rattle.std.proofs.lemmas.Result.{err_from_is_err_and}
 use Rattle.laws.specs.Sum.{sum}
 use Rattle.bits.specs.Reading.{onward}
 use Rattle.bits.specs.declared.reader.Cursor.{Cursor}
@@ -28,26 +29,27 @@ loop-t-init c = record {
   counted = refl;
 }
 
-pub gather_line-tested-requires-clause-shaped : goal.gather_line-tested-requires-clause-shaped
-gather_line-tested-requires-clause-shaped c =
+pub gather_line-requires-clause-shaped : goal.gather_line-requires-clause-shaped
+gather_line-requires-clause-shaped c =
     let S = c.requires.shaped in
     (S, rw c.loop-t.invariant.behind (behind-room S.dims c.loop-t.t (rw S.cycles at c.loop-t-test.true)), c.long_enough-bytes.ensures.long)
 
-pub gather_line-tested-requires-clause-at_value : goal.gather_line-tested-requires-clause-at_value
-gather_line-tested-requires-clause-at_value c =
+pub gather_line-requires-clause-at_value : goal.gather_line-requires-clause-at_value
+gather_line-requires-clause-at_value c =
     ap (λ (x : Cursor). x.at) c.loop-t.invariant.behind ∙ behind-stands _ _ c.loop-t.t
 
-pub returns-in-Refused : goal.returns-in-Refused
-returns-in-Refused c =
+pub returns-in_err-line : goal.returns-in_err-line
+returns-in_err-line c =
     let l = c.loop-t.invariant in
-    gathering-refused l.gathering (rw c.requires.shaped.cycles at c.loop-t-test.true)
-    (c.in-Refused.ensures c.args.file.now c.long_enough-bytes.ensures l.gathering.gathered)
+    let (e, is, same) = err_from_is_err_and c.from_residual.result c.from_residual.ensures.1 in
+    rw (is, same) (gathering-refused l.gathering (rw c.requires.shaped.cycles at c.loop-t-test.true)
+    (c.in_err-line.ensures c.args.file.now c.long_enough-bytes.ensures l.gathering.gathered))
 
 pub overflow_add-crossed : goal.overflow_add-crossed
 overflow_add-crossed c =
     let S = c.requires.shaped in
     let l = c.loop-t.invariant in
-    let told = c.in-Passed.ensures c.args.file.now c.long_enough-bytes.ensures l.gathering.gathered in
+    let told = c.in_ok-line.ensures c.args.file.now c.long_enough-bytes.ensures l.gathering.gathered in
     let left : c.loop-t.t < cycles c.args.shape.words c.args.shape.width = rw S.cycles at c.loop-t-test.true in
     record {
       fits = omega (
@@ -64,7 +66,7 @@ loop-t-preserved c =
     let n = c.args.shape.words in
     let w = c.args.shape.width in
     let l = c.loop-t.invariant in
-    let told = c.in-Passed.ensures c.args.file.now c.long_enough-bytes.ensures l.gathering.gathered in
+    let told = c.in_ok-line.ensures c.args.file.now c.long_enough-bytes.ensures l.gathering.gathered in
     record {
       gathering = gathering-more l.gathering (rw c.requires.shaped.cycles at c.loop-t-test.true) told.2;
       behind = told.0 ∙ ap (λ (x : Cursor). onward x (line_bits n w)) l.behind ∙ behind_more n w c.loop-t.t;

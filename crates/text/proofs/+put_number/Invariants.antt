@@ -1,0 +1,5 @@
+-- `put_number` ends since each call takes a figure off.
+use Rattle.text.proofs.+put_number.Given as goal
+
+abbrev pub decreases-put_number : goal.decreases-put_number
+decreases-put_number l = l.x
