@@ -1,7 +1,7 @@
 -- `spot_of`: the index is the spot, and no part of the sum is above it.
 use Rattle.std.proofs.Common.{arith}
 use Rattle.machine.proofs.Indexes.{index-spot, index-inside, shape-few}
-use Rattle.machine.proofs.rows.spot_of.Goals as goal
+use Rattle.machine.proofs.banks.spot_of.Goals as goal
 
 pub overflow_mul-result : goal.overflow_mul-result
 overflow_mul-result c = omega (arith, shape-few c.requires.shaped)
