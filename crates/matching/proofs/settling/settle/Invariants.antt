@@ -1,0 +1,7 @@
+use Rattle.matching.specs.Graph.{Edge}
+use Rattle.matching.specs.inner.Settling.{Placed, Unseated}
+use Rattle.matching.proofs.settling.settle.Given as goal
+
+abbrev pub invariant-loop-bank : goal.invariant-loop-bank
+invariant-loop-bank l =
+    Placed (Edge l.edges) l.layout.width l.keys l.owner l.bank l.vacant × Unseated l.layout.width l.seats l.bank l.unseated
