@@ -1,5 +1,5 @@
 -- `put_addresses` meets its contract: each turn puts two values more as one field, and a last one by itself.
-use Rattle.std.proofs.Common.{ℕ, ◌≡◌, ◌+◌, ◌*◌, ◌-◌, ◌%◌, ◌^◌, ◌<◌, ◌≤◌, length, get_or, refl, sym, ◌∙◌, arith}
+use Rattle.std.proofs.Common.{ℕ, ◌≡◌, ◌+◌, ◌*◌, ◌%◌, ◌^◌, ◌<◌, ◌≤◌, length, get_or, refl, sym, arith}
 use native.Mathlib.Nat.{add-mul, mul-le-mul_right}
 use Rattle.bits.proofs.Stores.{joined-lt, moved-exact}
 use Rattle.packing.proofs.Parts.{pair_put, put_fields-more, putting-none, putting-more}
