@@ -1,0 +1,42 @@
+-- `rows::wide::write_group` meets its contract, as `read_group` does: turn j cuts the address of bank from + j out of the field, and finds the bank
+-- faulty or goes on.
+use Rattle.std.proofs.Common.{◌≡◌, ◌+◌, ◌-◌, sym, ◌∙◌, arith}
+use Rattle.laws.proofs.Choices.{false-true}
+use Rattle.tables.specs.inner.Lines.{row_at}
+use Rattle.tables.proofs.Groups.{bits_left, bits-turned, group-address}
+use Rattle.rows.proofs.Groups.{write_same}
+use Rattle.rows.proofs.wide.write_group.Goals as goal
+
+pub returns-then-write_word : goal.returns-then-write_word
+returns-then-write_word c file at addresses places₀ words₀ e S W =
+    let a = c.args in
+    let l = c.loop-j in
+    let r = c.requires.shaped in
+    let left = bits_left a.count l.j a.shape.addressing c.loop-j-test.true l.invariant.0 in
+    let address = group-address file at a.shape.addressing a.count a.from l.j (l.behind - a.shape.addressing) e
+    (omega (arith, r.1, r.0.dims.narrow, c.loop-j-test.true)) (omega (arith, l.invariant.0, left)) in
+    let told = c.write_word.ensures addresses (row_at file at a.shape.addressing) places₀ words₀ S (address ∙ sym c.address_in-target.ensures)
+    (l.invariant.1 file at addresses places₀ words₀ e S W) in
+    let fault = told.found c.if-write_word.true in
+    record { found = λ _. fault; none = λ q. false-true (sym q) }
+
+pub loop-j-preserved : goal.loop-j-preserved
+loop-j-preserved c =
+    let a = c.args in
+    let l = c.loop-j in
+    let r = c.requires.shaped in
+    let left = bits_left a.count l.j a.shape.addressing c.loop-j-test.true l.invariant.0 in
+    let next : a.from + l.j + 1 ≡ a.from + (l.j + 1) = omega arith in (
+      bits-turned a.count l.j a.shape.addressing left l.invariant.0,
+      λ file at addresses places₀ words₀ e S W.
+          let address = group-address file at a.shape.addressing a.count a.from l.j (l.behind - a.shape.addressing) e
+          (omega (arith, r.1, r.0.dims.narrow, c.loop-j-test.true)) (omega (arith, l.invariant.0, left)) in
+          let told = c.write_word.ensures addresses (row_at file at a.shape.addressing) places₀ words₀ S (address ∙ sym c.address_in-target.ensures)
+          (l.invariant.1 file at addresses places₀ words₀ e S W) in
+          write_same next (told.none c.if-write_word.false),
+    )
+
+pub returns : goal.returns
+returns c file at addresses places₀ words₀ e S W =
+    let all : c.args.from + c.loop-j.j ≡ c.args.from + c.args.count = omega arith in
+    record { found = false-true; none = λ _. write_same all (c.loop-j.invariant.1 file at addresses places₀ words₀ e S W) }
