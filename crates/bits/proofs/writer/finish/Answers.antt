@@ -1,5 +1,5 @@
 -- `finish` meets its contract: what is held is put as one field, or as two where it has more than 16 bits.
-use Rattle.std.proofs.Common.{ℕ, ◌+◌, ◌-◌, ◌*◌, ◌/◌, ◌%◌, ◌^◌, List, ◌≡◌, ap, ◌∙◌, arith}
+use Rattle.std.proofs.Common.{ℕ, ◌+◌, ◌-◌, ◌*◌, ◌/◌, ◌%◌, ◌^◌, List, ap, ◌∙◌, arith}
 use Rattle.bits.specs.Bits.{put_field}
 use Rattle.bits.proofs.Digits.{one_shl}
 use Rattle.bits.proofs.Stores.{front-lt, whole-two}

@@ -1,5 +1,5 @@
 -- `write` meets its contract: what is held and the value behind it are one number, of which 32 bits are stored once it has them.
-use Rattle.std.proofs.Common.{ℕ, ◌+◌, ◌-◌, ◌*◌, ◌%◌, ◌^◌, List, ◌≡◌, ap, ◌∙◌, arith}
+use Rattle.std.proofs.Common.{ℕ, ◌+◌, ◌-◌, ◌*◌, ◌%◌, ◌^◌, List, ap, ◌∙◌, arith}
 use Rattle.bits.specs.inner.Writing.{whole_of}
 use Rattle.bits.proofs.Digits.{one_shl}
 use Rattle.bits.proofs.Stores.{moved-exact, open-held, whole-held, stored-lt, open-stored, whole-stored}

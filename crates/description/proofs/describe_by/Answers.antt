@@ -1,0 +1,64 @@
+-- `describe_by`: what reading answers decides what is written, and the words that it gives are those that leave.
+use Rattle.std.proofs.Common.{ℕ, ◌*◌, ◌<◌, ◌≤◌, ◌≡◌, List, length, get_or, replicate, sym, ap, ◌∙◌, arith}
+use Rattle.std.specs.Prelude.{Result, Ok}
+use lib.ListN.{length-replicate}
+use Rattle.limits.specs.Limits.{most_words}
+use Rattle.laws.specs.Permutation.{inverse}
+use Rattle.text.proofs.Texts.{wrote-same}
+use Rattle.refusal.specs.declared.Refusal.{Refusal}
+use Rattle.tables.specs.Format.{open_of, shape_of}
+use Rattle.tables.specs.declared.Shape.{Shape}
+use Rattle.tables.proofs.Form.{opened-shape}
+use Rattle.tables.proofs.Opens.{shape-words}
+use Rattle.reading.specs.Reading.{read_outcome, read_lines}
+use Rattle.reading.specs.declared.Contents.{Contents}
+use Rattle.reading.proofs.Exact.{read-shaped}
+use Rattle.description.specs.Description.{refusal_text}
+use Rattle.description.proofs.Texts.{number_short, ReadLeavers, set-read, refusal-read}
+use Rattle.description.proofs.describe_by.Goals as goal
+
+-- what reading tells, with the memory of the definition
+told : (file words : List ℕ) {shape : Shape} {r : Result Contents Refusal} → open_of file ≡ Ok shape
+    → ((images scratch : List ℕ) → shape.words ≤ length images → 2 * shape.words ≤ length scratch
+    → (after : List ℕ) × (read_outcome r after ≡ read_lines shape.words shape.width file images scratch)
+    × ((contents : Contents) → r ≡ Ok contents → (j : ℕ) → j < contents.words
+    → get_or words j 0 ≡ inverse contents.words (λ i. get_or after i 0) j))
+    → ReadLeavers file r words
+told file words opened reads =
+    let few = (opened-shape _ _ opened).dims.few in
+    let read = reads (replicate most_words 0) (replicate (2 * most_words) 0) (omega (arith, few, length-replicate {A = ℕ} most_words 0))
+    (omega (arith, few, length-replicate {A = ℕ} (2 * most_words) 0)) in
+    (read.0, read.1 ∙ sym (read-shaped _ _ _ _ opened), read.2)
+
+pub read_leavers-requires : goal.read_leavers-requires
+read_leavers-requires c = (opened-shape _ _ c.requires.file_value.0, c.requires.unmarked.0, c.requires.unmarked.1)
+
+pub put_refusal-requires : goal.put_refusal-requires
+put_refusal-requires c = (rw c.number.ensures (number_short c.in-Err.refusal), c.requires.file_value.1)
+
+pub put_set-requires : goal.put_set-requires
+put_set-requires c =
+    let A = set-read _ _ (told c.args.file.now c.read_leavers.new.leavers c.requires.file_value.0 c.read_leavers.ensures) c.in-Ok.is in
+    let D = A.dims in
+    let words : c.args.shape.words ≡ c.in-Ok.contents.words =
+    let same : c.args.shape ≡ shape_of c.in-Ok.contents.words c.in-Ok.contents.width = cc (sym c.requires.file_value.0 ∙ A.opened) in
+    shape-words D same in
+    record {
+      n_le_most_words = (
+        D.few,
+        D.wide,
+        D.narrow,
+        omega (arith, words, c.requires.unmarked.1.long, c.read_leavers.auto.leavers),
+        c.requires.file_value.1,
+      );
+      by_index = A.below;
+    }
+
+pub returns-in-Err : goal.returns-in-Err
+returns-in-Err c =
+    let text = ap refusal_text c.number.ensures in
+    wrote-same (text ∙ sym (refusal-read _ _ (told c.args.file.now c.read_leavers.new.leavers c.requires.file_value.0 c.read_leavers.ensures) c.in-Err.is)) c.put_refusal.ensures
+
+pub returns-in-Ok : goal.returns-in-Ok
+returns-in-Ok c =
+    wrote-same (sym (set-read _ _ (told c.args.file.now c.read_leavers.new.leavers c.requires.file_value.0 c.read_leavers.ensures) c.in-Ok.is).described) c.put_set.ensures

@@ -1,0 +1,7 @@
+use Rattle.std.proofs.Common.{length}
+use Rattle.images.specs.Images.{order_of}
+use Rattle.packing.specs.inner.Plans.{Planned}
+use Rattle.packing.proofs.plan_line.Given as goal
+
+abbrev pub invariant-loop-k : goal.invariant-loop-k
+invariant-loop-k l = Planned l.w (order_of (length l.images) l.images) l.words l.k l.reads l.forward l.back l.writes
