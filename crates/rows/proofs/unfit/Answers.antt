@@ -2,7 +2,6 @@
 use Rattle.std.proofs.Common.{sym, arith}
 use borrow.Author.Tests.{eqb-true, eqb-false, not-true, not-false}
 use Rattle.laws.proofs.Choices.{false-true}
-use Rattle.tables.specs.Terms.{cycles}
 use Rattle.tables.proofs.Shapes.{shape_fields}
 use Rattle.rows.proofs.Marks.{inside, fault-outside, fault-marked, sound_more}
 use Rattle.rows.proofs.unfit.Goals as goal

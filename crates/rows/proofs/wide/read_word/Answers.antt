@@ -1,5 +1,5 @@
 -- `rows::wide::read_word` meets its contract: bank b is faulty, or no bank below b + 1 is, and its word stands with those before it.
-use Rattle.std.proofs.Common.{sym, arith}
+use Rattle.std.proofs.Common.{arith}
 use Rattle.laws.proofs.Choices.{false-true}
 use Rattle.rows.proofs.Marks.{inside}
 use Rattle.rows.proofs.Groups.{kept_more}

@@ -1,7 +1,6 @@
 -- `rows::wide::take_reads` meets its contract: each turn takes one group of banks, from where the one before it ended, and the banks that are left
 -- are a shorter group.
-use Rattle.std.proofs.Common.{ℕ, ◌≡◌, ◌+◌, ◌*◌, ◌-◌, ◌≤◌, ap, ◌∙◌, arith}
-use native.Mathlib.Nat.{add-mul}
+use Rattle.std.proofs.Common.{◌≡◌, ◌+◌, ◌*◌, ◌-◌, ap, ◌∙◌, arith}
 use Rattle.bits.specs.Reading.{onward}
 use Rattle.tables.specs.Terms.{address_bits}
 use Rattle.tables.proofs.Dims.{address_bits-few}
@@ -28,7 +27,6 @@ pub read_group-requires-clause-in_bounds : goal.read_group-requires-clause-in_bo
 read_group-requires-clause-in_bounds c =
     let F = shape_fields c.shape.invariant c.shape.view_is in
     (rw F.width at c.loop-b-test.true, omega (arith, address_bits-few F.dims))
-
 
 pub next_field-last-requires : goal.next_field-last-requires
 next_field-last-requires c =

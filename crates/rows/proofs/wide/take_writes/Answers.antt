@@ -1,6 +1,6 @@
 -- `rows::wide::take_writes` meets its contract, as `take_reads` does: each turn takes one group of banks, from where the one before it ended, and the
 -- banks that are left are a shorter group.
-use Rattle.std.proofs.Common.{ℕ, ◌≡◌, ◌+◌, ◌*◌, ◌-◌, ◌≤◌, sym, ap, ◌∙◌, arith}
+use Rattle.std.proofs.Common.{ℕ, ◌≡◌, ◌+◌, ◌*◌, ◌-◌, sym, ap, ◌∙◌, arith}
 use native.Mathlib.Nat.{add-mul}
 use Rattle.bits.specs.Reading.{onward}
 use Rattle.tables.specs.Terms.{address_bits}

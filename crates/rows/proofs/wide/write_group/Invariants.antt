@@ -1,18 +1,10 @@
-use Prim.Native.Nat.{ℕ, ◌+◌, ◌*◌, ◌-◌, ◌≤◌}
-use mathlib.Core.Path.{◌≡◌, refl, sym, ◌∙◌}
+use Prim.Native.Nat.{ℕ, ◌+◌, ◌*◌}
+use mathlib.Core.Path.{◌≡◌}
 use mathlib.Core.List.{List}
-use native.Mathlib.Nat.{add-zero, zero-mul}
-use native.Mathlib.Omega.{arith}
-use borrow.Author.Rules.{rules}
-use lib.ListN.{length}
-use Rattle.laws.proofs.Choices.{false-true}
 use Rattle.bits.specs.Bits.{field}
 use Rattle.tables.specs.Terms.{address_bits}
 use Rattle.tables.specs.inner.Lines.{row_at}
-use Rattle.tables.proofs.Dims.{address_bits-few}
-use Rattle.tables.proofs.Groups.{bits_left, bits-turned, group-address}
-use Rattle.rows.specs.inner.Rows.{Sending, WriteOn, WriteTo}
-use Rattle.rows.proofs.Groups.{write_same}
+use Rattle.rows.specs.inner.Rows.{Sending, WriteOn}
 use Rattle.rows.proofs.wide.write_group.Given as goal
 
 abbrev pub invariant-loop-j : goal.invariant-loop-j
