@@ -24,13 +24,13 @@ put_addresses-read-requires-clause-size_bound c =
     let r = c.requires.shaped in
     let shape = c.args.shape in
     let P = line-placed r.0.dims (shape_same r.0) in
-    (P.address-few, front-each (λ (x : ℕ). x < 2 ^ shape.addressing) shape.width c.args.reads.now (omega (arith, P.narrow)) (read_fits P r.1))
+    (P.address-few, front-each (λ (x : ℕ). x < 2 ^ shape.addressing) shape.width c.args.plan.now.reads (omega (arith, P.narrow)) (read_fits P r.1))
 
 pub put_addresses-read-requires-clause-fact : goal.put_addresses-read-requires-clause-fact
 put_addresses-read-requires-clause-fact c =
     let S = c.requires.shaped.0 in
     let P = line-placed S.dims (shape_same S) in
-    rw (length-take-le c.args.shape.width c.args.reads.now (omega (arith, P.narrow)))
+    rw (length-take-le c.args.shape.width c.args.plan.now.reads (omega (arith, P.narrow)))
     (c.requires.fact.0, omega (arith, P.total, c.requires.fact.1), omega (arith, P.total, c.requires.fact.2))
 
 pub put_switches-set-requires-clause-fact : goal.put_switches-set-requires-clause-fact
@@ -39,7 +39,7 @@ put_switches-set-requires-clause-fact c =
     let S = c.requires.shaped.0 in
     let P = line-placed S.dims (shape_same S) in
     let written = c.put_addresses-read in
-    let read = front-put _ _ c.args.at shape.addressing shape.width c.args.reads.now (omega (arith, P.narrow)) written.ensures in
+    let read = front-put _ _ c.args.at shape.addressing shape.width c.args.plan.now.reads (omega (arith, P.narrow)) written.ensures in
     (read.0, omega (arith, P.total, c.requires.fact.1, written.auto.file), omega (arith, P.total, c.requires.fact.2))
 
 pub put_addresses-requires-clause-size_bound : goal.put_addresses-requires-clause-size_bound
@@ -47,13 +47,13 @@ put_addresses-requires-clause-size_bound c =
     let r = c.requires.shaped in
     let shape = c.args.shape in
     let P = line-placed r.0.dims (shape_same r.0) in
-    (P.address-few, front-each (λ (x : ℕ). x < 2 ^ shape.addressing) shape.width c.args.writes.now (omega (arith, P.narrow)) (write-fits P r.1))
+    (P.address-few, front-each (λ (x : ℕ). x < 2 ^ shape.addressing) shape.width c.args.plan.now.writes (omega (arith, P.narrow)) (write-fits P r.1))
 
 pub put_addresses-requires-clause-fact : goal.put_addresses-requires-clause-fact
 put_addresses-requires-clause-fact c =
     let S = c.requires.shaped.0 in
     let P = line-placed S.dims (shape_same S) in
-    let long = length-take-le c.args.shape.width c.args.writes.now (omega (arith, P.narrow)) in
+    let long = length-take-le c.args.shape.width c.args.plan.now.writes (omega (arith, P.narrow)) in
     rw long (
       c.put_switches-set.ensures.0,
       omega (arith, P.total, c.requires.fact.1, c.put_addresses-read.auto.file, c.put_switches-set.auto.file),
@@ -68,9 +68,9 @@ returns c =
     let P = line-placed S.dims (shape_same S) in
     let row = shape.width * shape.addressing in
     let end : a.at + row + shape.switches + row ≡ a.at + shape.stride = omega (arith, P.total) in
-    let read = front-put _ _ a.at shape.addressing shape.width a.reads.now (omega (arith, P.narrow)) c.put_addresses-read.ensures in
-    let written = front-put _ _ (a.at + row + shape.switches) shape.addressing shape.width a.writes.now (omega (arith, P.narrow)) c.put_addresses.ensures in (
+    let read = front-put _ _ a.at shape.addressing shape.width a.plan.now.reads (omega (arith, P.narrow)) c.put_addresses-read.ensures in
+    let written = front-put _ _ (a.at + row + shape.switches) shape.addressing shape.width a.plan.now.writes (omega (arith, P.narrow)) c.put_addresses.ensures in (
       rw end at written.0,
-      line-put _ _ a.at _ _ _ _ a.reads.now a.forward.now a.writes.now (shape_same S) read.1 c.put_switches-set.ensures.1
+      line-put _ _ a.at _ _ _ _ a.plan.now.reads a.plan.now.forward a.plan.now.writes (shape_same S) read.1 c.put_switches-set.ensures.1
           (ap (λ (x : ℕ). whole_of c.put_addresses.new.file x c.put_addresses.result) (sym end) ∙ written.1),
     )

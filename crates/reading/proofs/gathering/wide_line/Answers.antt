@@ -7,7 +7,7 @@ use Rattle.bits.specs.Reading.{onward}
 use Rattle.tables.proofs.Dims.{depth-reaches, lines-few}
 use Rattle.tables.proofs.Cursors.{room-less, room-behind, carried_on}
 use Rattle.tables.proofs.Opens.{shape_same}
-use Rattle.tables.proofs.Passes.{line-fits}
+use Rattle.tables.proofs.Passes.{line-fits, line-sized}
 use Rattle.tables.proofs.Held.{reads_of, zeros-self, crossings-held}
 use Rattle.reading.proofs.Known.{send, read-refused, carry-refused, write-refused, line-passes}
 use Rattle.reading.proofs.gathering.wide_line.Goals as goal
@@ -37,7 +37,9 @@ carry-carried-requires c =
 pub spare_used-requires : goal.spare_used-requires
 spare_used-requires c =
     let S = c.requires.shaped.0 in
-    (rw S.lines (depth-reaches c.args.shape.width), omega (arith, c.carry-carried.array_long, S.lines, lines-few S.dims))
+    let sized = line-sized S.dims (shape_same S) in
+    let long = (c.carry-carried.ensures.2 sized.0 sized.1).long in
+    (rw S.lines (depth-reaches c.args.shape.width), omega (arith, long, S.lines, lines-few S.dims))
 
 pub returns-then-spare_used : goal.returns-then-spare_used
 returns-then-spare_used c file Z G k refused next =
