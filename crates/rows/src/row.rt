@@ -3,7 +3,7 @@
 ghost use Rattle.std.specs.Prelude.{◌≡◌, List, ℕ, ◌+◌, ◌*◌, ◌<◌, ◌≤◌, length, get_or};
 ghost use Rattle.bits.specs.Bits.{field};
 ghost use Rattle.bits.specs.inner.Taking.{most_field, Room};
-ghost use Rattle.tables.specs.Format.{Shaped};
+ghost use Rattle.tables.specs.Terms.{address_bits};
 ghost use Rattle.tables.specs.inner.Lines.{row_at};
 ghost use Rattle.tables.specs.declared.Shape.{Shape};
 ghost use Rattle.rows.specs.inner.Rows.{To, RowTo};
@@ -30,7 +30,7 @@ pub trait Banks {
 
     // Takes the address of a bank. Whether the bank is faulty.
     fn take(&mut self, address: usize, bank: usize, shape: Shape) -> bool
-        requires shaped { Shaped shape × (bank < shape.width) }
+        requires in_bounds { bank < shape.width }
         requires ready { Ready shape self.old }
         ensures same { Same self.old self.new }
         ensures told { (start : Self) (addresses : List ℕ) → get_or addresses bank 0 ≡ address
@@ -46,14 +46,14 @@ pub trait Banks {
 
 // Takes the addresses of `count` banks from bank `from` on, which stand in one field. Whether one of the banks is faulty.
 fn take_group<B: Banks>(row: u64, count: usize, from: usize, shape: Shape, banks: &mut B) -> bool
-    requires shaped { Shaped shape × (from + count ≤ shape.width) × (count * shape.addressing ≤ most_field) }
+    requires in_bounds { (from + count ≤ shape.width) × (count * address_bits shape.words shape.width ≤ most_field) }
     requires ready { B.Ready shape banks.old }
     ensures same { B.Same banks.old banks.new }
     ensures told { (start : B) (file : List ℕ) (at : ℕ)
-        → row ≡ field file (at + from * shape.addressing) (count * shape.addressing)
-        → B.On shape start (row_at file at shape.addressing) from banks.old
-        → To result (B.Fault shape start (row_at file at shape.addressing))
-        (B.On shape start (row_at file at shape.addressing) (from + count) banks.new) }
+        → row ≡ field file (at + from * address_bits shape.words shape.width) (count * address_bits shape.words shape.width)
+        → B.On shape start (row_at file at (address_bits shape.words shape.width)) from banks.old
+        → To result (B.Fault shape start (row_at file at (address_bits shape.words shape.width)))
+        (B.On shape start (row_at file at (address_bits shape.words shape.width)) (from + count) banks.new) }
 {
     let size = shape.addressing;
     let mut behind = count * size;
@@ -74,29 +74,31 @@ pub fn take_row<B: Banks>(
     shape: Shape,
     banks: &mut B,
 ) -> Option<Cursor>
-    requires shaped { Shaped shape × (8 ≤ length file.now) × Room cursor (shape.width * shape.addressing) }
+    requires in_bounds { (8 ≤ length file.now) × Room cursor (shape.width * address_bits shape.words shape.width) }
     requires ready { B.Ready shape banks.old }
     ensures same { B.Same banks.old banks.new }
-    ensures told { B.On shape banks.old (row_at file.now cursor.at shape.addressing) 0 banks.old
-        → RowTo result cursor shape (B.Fault shape banks.old (row_at file.now cursor.at shape.addressing))
-        (B.On shape banks.old (row_at file.now cursor.at shape.addressing) shape.width banks.new) }
+    ensures told { B.On shape banks.old (row_at file.now cursor.at (address_bits shape.words shape.width)) 0 banks.old
+        → RowTo result cursor shape (B.Fault shape banks.old (row_at file.now cursor.at (address_bits shape.words shape.width)))
+        (B.On shape banks.old (row_at file.now cursor.at (address_bits shape.words shape.width)) shape.width banks.new) }
 {
+    let width = shape.width;
+    let size = shape.addressing;
     let mut next = cursor;
     let mut b = 0;
     // The last group begins at the bank that is left, so a `for` is no plainer.
-    while b + GROUP <= shape.width {
-        let taken = bits::next_field(file, next, GROUP * shape.addressing);
+    while b + GROUP <= width {
+        let taken = bits::next_field(file, next, GROUP * size);
         if take_group(taken.value, GROUP, b, shape, banks) {
             return None;
         }
         next = taken.rest;
         b += GROUP;
     }
-    let rest = shape.width - b;
+    let rest = width - b;
     if rest == 0 {
         return Some(next);
     }
-    let last = bits::next_field(file, next, rest * shape.addressing);
+    let last = bits::next_field(file, next, rest * size);
     if take_group(last.value, rest, b, shape, banks) {
         return None;
     }
