@@ -1,5 +1,5 @@
 -- `move_one`: the two addresses are cut out of the line's field, each is tested, and the word moves.
-use Rattle.std.proofs.Common.{◌*◌, ◌≡◌, ◌∙◌, arith}
+use Rattle.std.proofs.Common.{◌*◌, ◌∙◌, arith}
 use Rattle.tables.specs.Terms.{address_bits}
 use Rattle.tables.proofs.Dims.{address_bits-few}
 use Rattle.tables.proofs.Narrow.{field_room, field-taken, one-read, one-write}

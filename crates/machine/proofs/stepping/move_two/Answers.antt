@@ -1,12 +1,12 @@
 -- `move_two`: the four addresses and the switch bit are cut out of the line's field, the addresses are tested, and both words move.
-use Rattle.std.proofs.Common.{ℕ, ◌+◌, ◌*◌, ◌-◌, ◌/◌, ◌%◌, ◌^◌, ◌<◌, ◌≤◌, ◌≡◌, List, length, ◌∙◌, arith, rules}
+use Rattle.std.proofs.Common.{ℕ, ◌+◌, ◌*◌, ◌-◌, ◌/◌, ◌%◌, ◌^◌, ◌<◌, ◌≤◌, ◌≡◌, List, ◌∙◌, arith}
 use native.Mathlib.Nat.{mul-le-mul_right}
 use Rattle.bits.specs.Bits.{field}
 use Rattle.bits.specs.inner.Taking.{WithZeros, field_behind}
 use Rattle.bits.specs.declared.reader.Cursor.{Cursor}
 use Rattle.bits.specs.declared.reader.Field.{Field}
 use Rattle.tables.specs.Format.{cursor_at, line_at, read_address}
-use Rattle.tables.specs.Terms.{Dims, cycles, address_bits}
+use Rattle.tables.specs.Terms.{cycles, address_bits}
 use Rattle.tables.specs.Shapes.{Size}
 use Rattle.tables.specs.declared.Shape.TheInside.{Inside}
 use Rattle.tables.proofs.Dims.{address_bits-few}

@@ -1,5 +1,5 @@
 -- `move_wide`: the tests are the definition's, in its order, and the words of a line that passes them move.
-use Rattle.std.proofs.Common.{◌≤◌, ◌≡◌, length, sym, ◌∙◌, arith, rules}
+use Rattle.std.proofs.Common.{◌≡◌, sym, ◌∙◌, arith, rules}
 use Rattle.std.proofs.lemmas.Result.{err_from_is_err_and}
 use Rattle.refusal.specs.declared.Refusal.TheVariants.{ReadAddress, WriteAddress}
 use Rattle.tables.proofs.Dims.{depth-reaches, lines-few}
@@ -41,8 +41,7 @@ returns-then-spare_used c file Z =
 
 pub aim-requires-clause-in_file : goal.aim-requires-clause-in_file
 aim-requires-clause-in_file c =
-    let F = shape_fields c.shape.invariant c.shape.view_is in
-    (
+    let F = shape_fields c.shape.invariant c.shape.view_is in (
       c.requires.in_bounds.0,
       writes-room F.dims c.requires.in_range.0 c.cursor_at-cursor.ensures (rw c.in_ok-next.ensures.ok_part at c.fetch.ensures).0 c.carry-carried.ensures.0,
     )
