@@ -11,13 +11,6 @@ use Rattle.tables.proofs.Shapes.{shape_fields}
 use Rattle.machine.proofs.Taking.{taken_none, taken-same}
 use Rattle.machine.proofs.rows.aim.Goals as goal
 
-pub loop-k-init : goal.loop-k-init
-loop-k-init c = record {
-  within = omega arith;
-  behind = sym (onward-none c.args.cursor) ∙ ap (onward c.args.cursor) (sym (zero-mul (address_bits c.args.shape.words c.args.shape.width)));
-  taken = taken_none c.told-to;
-}
-
 pub next_field-taken-requires : goal.next_field-taken-requires
 next_field-taken-requires c =
     let F = shape_fields c.shape.invariant c.shape.view_is in
@@ -33,42 +26,6 @@ pub aim_group-requires-clause-in_field : goal.aim_group-requires-clause-in_field
 aim_group-requires-clause-in_field c =
     let F = shape_fields c.shape.invariant c.shape.view_is in
     (rw F.width at c.loop-k-test.true, omega (arith, address_bits-few F.dims))
-
-pub returns-then-aim_group : goal.returns-then-aim_group
-returns-then-aim_group c =
-    let F = shape_fields c.shape.invariant c.shape.view_is in
-    let size = address_bits c.args.shape.words c.args.shape.width in
-    let taken = field-behind c.args.cursor (c.loop-k.k * size) c.loop-k.invariant.behind c.args.file.now (4 * size)
-    (rw F.addressing at c.next_field-taken.ensures) in
-    (c.aim_group.ensures c.args.file.now c.args.cursor.at taken.0 c.loop-k.invariant.taken).found c.if-aim_group.true
-
-pub loop-k-preserved : goal.loop-k-preserved
-loop-k-preserved c =
-    let F = shape_fields c.shape.invariant c.shape.view_is in
-    let size = address_bits c.args.shape.words c.args.shape.width in
-    let taken = field-behind c.args.cursor (c.loop-k.k * size) c.loop-k.invariant.behind c.args.file.now (4 * size)
-    (rw F.addressing at c.next_field-taken.ensures) in
-    record {
-      within = rw F.width at c.loop-k-test.true;
-      behind = taken.1 ∙ ap (onward c.args.cursor) (sym (add-mul c.loop-k.k 4 size));
-      taken = (c.aim_group.ensures c.args.file.now c.args.cursor.at taken.0 c.loop-k.invariant.taken).none c.if-aim_group.false;
-    }
-
-pub returns-then-rest-eq0 : goal.returns-then-rest-eq0
-returns-then-rest-eq0 c =
-    let F = shape_fields c.shape.invariant c.shape.view_is in
-    let size = address_bits c.args.shape.words c.args.shape.width in
-    let all : c.loop-k.k ≡ c.args.shape.width = omega (arith, c.loop-k.invariant.within, c.if-rest-eq0.true, F.width) in (
-      c.loop-k.invariant.behind ∙ ap (λ (k : ℕ). onward c.args.cursor (k * size)) all,
-      taken-same all c.loop-k.invariant.taken,
-    )
-
-pub overflow_mul-rest : goal.overflow_mul-rest
-overflow_mul-rest c =
-    let F = shape_fields c.shape.invariant c.shape.view_is in
-    let size = address_bits c.args.shape.words c.args.shape.width in
-    rw (F.width, F.addressing)
-    (record { fits = omega (arith, rest-few c.args.shape.width c.loop-k.k size (rw F.width at c.loop-k-test.false) (address_bits-few F.dims)) })
 
 pub next_field-last-requires : goal.next_field-last-requires
 next_field-last-requires c =
@@ -88,14 +45,6 @@ aim_group-requires-2-clause-in_field c =
       omega (arith, c.loop-k.invariant.within),
       omega (arith, rest-few c.args.shape.width c.loop-k.k _ (rw F.width at c.loop-k-test.false) (address_bits-few F.dims)),
     )
-
-pub returns-then-aim_group-2 : goal.returns-then-aim_group-2
-returns-then-aim_group-2 c =
-    let F = shape_fields c.shape.invariant c.shape.view_is in
-    let size = address_bits c.args.shape.words c.args.shape.width in
-    let taken = field-behind c.args.cursor (c.loop-k.k * size) c.loop-k.invariant.behind c.args.file.now ((c.args.shape.width - c.loop-k.k) * size)
-    (rw (F.width, F.addressing) at c.next_field-last.ensures) in
-    ((rw F.width at c.aim_group-2.ensures) c.args.file.now c.args.cursor.at taken.0 c.loop-k.invariant.taken).found c.if-aim_group-2.true
 
 pub returns : goal.returns
 returns c =

@@ -9,8 +9,3 @@ sources-requires c =
     let F = shape_fields c.shape.invariant c.shape.view_is in
     rw (F.lines, F.switches)
     (record { by_index = line-sized c.args.shape.width; in_bounds = (c.requires.0, lines-few F.dims, switch_bits-few F.dims, c.requires.1) })
-
-pub returns : goal.returns
-returns c =
-    let F = shape_fields c.shape.invariant c.shape.view_is in
-    rw (F.lines, F.switches) at c.sources.ensures

@@ -81,30 +81,10 @@ next_field-line-requires c =
       field_room F.dims c.args.clock.cycle c.requires.in_range.0.cycle c.cursor_at.ensures (omega (arith, small)),
     )
 
-pub overflow_mul-size-2 : goal.overflow_mul-size-2
-overflow_mul-size-2 c =
-    let F = shape_fields c.shape.invariant c.shape.view_is in
-    omega (arith, few F)
-
-pub overflow_add-size-2 : goal.overflow_add-size-2
-overflow_add-size-2 c =
-    let F = shape_fields c.shape.invariant c.shape.view_is in
-    omega (arith, few F)
-
 pub address_in-even-requires : goal.address_in-even-requires
 address_in-even-requires c =
     let F = shape_fields c.shape.invariant c.shape.view_is in
     let small = few F in (omega (arith, small), omega (arith, small))
-
-pub overflow_mul-size-3 : goal.overflow_mul-size-3
-overflow_mul-size-3 c =
-    let F = shape_fields c.shape.invariant c.shape.view_is in
-    omega (arith, few F)
-
-pub overflow_add-size-3 : goal.overflow_add-size-3
-overflow_add-size-3 c =
-    let F = shape_fields c.shape.invariant c.shape.view_is in
-    omega (arith, few F)
 
 pub address_in-odd-requires : goal.address_in-odd-requires
 address_in-odd-requires c =
@@ -127,30 +107,15 @@ returns-then-shape-odd c file Z =
     (odd-is F c.args.clock.cycle c.cursor_at.ensures c.next_field-line.ensures Z c.address_in-odd.ensures)
     (rw G.cycles at c.if-shape-odd.true)
 
-pub overflow_mul-size-4 : goal.overflow_mul-size-4
-overflow_mul-size-4 c =
-    let F = shape_fields c.shape.invariant c.shape.view_is in
-    omega (arith, few F)
-
 pub address_in-bit-requires : goal.address_in-bit-requires
 address_in-bit-requires c =
     let F = shape_fields c.shape.invariant c.shape.view_is in
     (omega (arith, few F), omega arith)
 
-pub overflow_mul-bit : goal.overflow_mul-bit
-overflow_mul-bit c =
-    let F = shape_fields c.shape.invariant c.shape.view_is in
-    omega (arith, behind-few F (1 - c.address_in-bit.result) (omega arith))
-
 pub address_in-near-requires : goal.address_in-near-requires
 address_in-near-requires c =
     let F = shape_fields c.shape.invariant c.shape.view_is in
     (omega (arith, behind-few F (1 - c.address_in-bit.result) (omega arith)), omega (arith, few F))
-
-pub overflow_mul-bit-2 : goal.overflow_mul-bit-2
-overflow_mul-bit-2 c =
-    let F = shape_fields c.shape.invariant c.shape.view_is in
-    omega (arith, behind-few F c.address_in-bit.result (omega (arith, c.address_in-bit.ensures)))
 
 pub address_in-far-requires : goal.address_in-far-requires
 address_in-far-requires c =
@@ -174,28 +139,6 @@ returns-then-shape-far c file Z =
     c.address_in-odd.ensures (rw G.cycles at c.if-shape-even.false) (rw G.cycles at c.if-shape-odd.false) c.address_in-bit.ensures c.address_in-near.ensures
     c.address_in-far.ensures in
     far-out _ _ file _ _ _ c.requires.in_range.1 P (rw G.cycles at c.if-shape-far.true)
-
-pub move_word-requires : goal.move_word-requires
-move_word-requires c =
-    let F = shape_fields c.shape.invariant c.shape.view_is in
-    let G = shape_fields c.shape-2.invariant c.shape-2.view_is in
-    let two = c.requires.in_range.2 in
-    record {
-      in_range = c.requires.in_range.0;
-      bank_lt_width = (omega (arith, two), rw G.cycles at c.if-shape-even.false, omega (arith, two, c.address_in-bit.ensures), rw G.cycles at c.if-shape-near.false);
-      words_in_bounds = (c.requires.in_bounds.1, c.requires.in_bounds.2);
-    }
-
-pub move_word-requires-2 : goal.move_word-requires-2
-move_word-requires-2 c =
-    let F = shape_fields c.shape.invariant c.shape.view_is in
-    let G = shape_fields c.shape-2.invariant c.shape-2.view_is in
-    let two = c.requires.in_range.2 in
-    record {
-      in_range = c.requires.in_range.0;
-      bank_lt_width = (omega (arith, two), rw G.cycles at c.if-shape-odd.false, omega (arith, two), rw G.cycles at c.if-shape-far.false);
-      words_in_bounds = (c.requires.in_bounds.1, omega (arith, c.requires.in_bounds.2, c.move_word.auto.second));
-    }
 
 pub returns : goal.returns
 returns c file Z =
