@@ -2,6 +2,7 @@
 use Rattle.std.proofs.Common.{ℕ, ◌*◌, ◌<◌, ◌≤◌, ◌≡◌, List, length, get_or, replicate, sym, ap, ◌∙◌, arith}
 use Rattle.std.specs.Prelude.{Result, Ok}
 use lib.ListN.{length-replicate}
+use lib.Seq.{length-take-le, get_or-take}
 use Rattle.limits.specs.Limits.{most_words}
 use Rattle.laws.specs.Permutation.{inverse}
 use Rattle.text.proofs.Texts.{wrote-same}
@@ -14,7 +15,7 @@ use Rattle.reading.specs.Reading.{read_outcome, read_lines}
 use Rattle.reading.specs.declared.Contents.{Contents}
 use Rattle.reading.proofs.Exact.{read-shaped}
 use Rattle.description.specs.Description.{refusal_text}
-use Rattle.description.proofs.Texts.{number_short, ReadLeavers, set-read, refusal-read}
+use Rattle.description.proofs.Texts.{number_short, ReadLeavers, SetRead, set-read, refusal-read, set_text-taken}
 use Rattle.description.proofs.describe_by.Goals as goal
 
 -- what reading tells, with the memory of the definition
@@ -36,22 +37,33 @@ read_leavers-requires c = (opened-shape _ _ c.requires.file_value.0, c.requires.
 pub put_refusal-requires : goal.put_refusal-requires
 put_refusal-requires c = (rw c.number.ensures (number_short c.in-Err.refusal), c.requires.file_value.1)
 
+-- the words that are read are as many as the shape says
+enough : {file words : List ℕ} {shape : Shape} {contents : Contents} → open_of file ≡ Ok shape → SetRead file contents words
+    → shape.words ≤ length words → contents.words ≤ length words
+enough {shape = shape} {contents} opened A long =
+    let same : shape ≡ shape_of contents.words contents.width = cc (sym opened ∙ A.opened) in
+    omega (arith, shape-words A.dims same)
+
+pub slice_bounds-put_set-end : goal.slice_bounds-put_set-end
+slice_bounds-put_set-end c =
+    let A = set-read _ _ (told c.args.file.now c.read_leavers.new.leavers c.requires.file_value.0 c.read_leavers.ensures) c.in-Ok.is in
+    let long = enough c.requires.file_value.0 A (omega (arith, c.requires.unmarked.1.long, c.read_leavers.auto.leavers)) in
+    long
+
+pub slice_bounds-put_set-end-in-Ok : goal.slice_bounds-put_set-end-in-Ok
+slice_bounds-put_set-end-in-Ok c =
+    let A = set-read _ _ (told c.args.file.now c.read_leavers.new.leavers c.requires.file_value.0 c.read_leavers.ensures) c.in-Ok.is in
+    let long = enough c.requires.file_value.0 A (omega (arith, c.requires.unmarked.1.long, c.read_leavers.auto.leavers)) in
+    sym (length-take-le _ _ long)
+
 pub put_set-requires : goal.put_set-requires
 put_set-requires c =
     let A = set-read _ _ (told c.args.file.now c.read_leavers.new.leavers c.requires.file_value.0 c.read_leavers.ensures) c.in-Ok.is in
-    let D = A.dims in
-    let words : c.args.shape.words ≡ c.in-Ok.contents.words =
-    let same : c.args.shape ≡ shape_of c.in-Ok.contents.words c.in-Ok.contents.width = cc (sym c.requires.file_value.0 ∙ A.opened) in
-    shape-words D same in
+    let long = enough c.requires.file_value.0 A (omega (arith, c.requires.unmarked.1.long, c.read_leavers.auto.leavers)) in
+    let e = length-take-le c.in-Ok.contents.words c.read_leavers.new.leavers long in
     record {
-      n_le_most_words = (
-        D.few,
-        D.wide,
-        D.narrow,
-        omega (arith, words, c.requires.unmarked.1.long, c.read_leavers.auto.leavers),
-        c.requires.file_value.1,
-      );
-      by_index = A.below;
+      room = rw e (A.dims.few, A.dims.wide, A.dims.narrow, c.requires.file_value.1);
+      by_index = rw e (λ j l. rw (get_or-take c.in-Ok.contents.words c.read_leavers.new.leavers j 0 l) (A.below j l));
     }
 
 pub returns-in-Err : goal.returns-in-Err
@@ -61,4 +73,6 @@ returns-in-Err c =
 
 pub returns-in-Ok : goal.returns-in-Ok
 returns-in-Ok c =
-    wrote-same (sym (set-read _ _ (told c.args.file.now c.read_leavers.new.leavers c.requires.file_value.0 c.read_leavers.ensures) c.in-Ok.is).described) c.put_set.ensures
+    let A = set-read _ _ (told c.args.file.now c.read_leavers.new.leavers c.requires.file_value.0 c.read_leavers.ensures) c.in-Ok.is in
+    let long = enough c.requires.file_value.0 A (omega (arith, c.requires.unmarked.1.long, c.read_leavers.auto.leavers)) in
+    wrote-same (set_text-taken _ _ _ long ∙ sym A.described) c.put_set.ensures

@@ -1,5 +1,5 @@
 -- `put_leavers`: a turn writes one number and its separator behind the earlier ones.
-use Rattle.std.proofs.Common.{ℕ, ◌+◌, ◌*◌, ◌<◌, ◌≤◌, ◌≡◌, List, length, get_or, refl, subst, ◌∙◌, arith}
+use Rattle.std.proofs.Common.{ℕ, ◌+◌, ◌*◌, ◌<◌, ◌≤◌, ◌≡◌, List, length, get_or, refl, subst, arith}
 use Rattle.limits.specs.Limits.{most_words}
 use Rattle.text.specs.Text.{decimal}
 use Rattle.text.specs.inner.Writing.{Wrote}
@@ -18,22 +18,22 @@ loop-j-init c = leaving-none _ _ _ _ _
 
 pub put_number-next-requires : goal.put_number-next-requires
 put_number-next-requires c =
-    let R = c.requires.n_le_most_words in
-    omega (arith, room c.loop-j.invariant c.loop-j-test.true R.0 R.3 (c.requires.by_index c.loop-j.j c.loop-j-test.true))
+    let R = c.requires.room in
+    omega (arith, room c.loop-j.invariant c.loop-j-test.true R.0 R.2 (c.requires.by_index c.loop-j.j c.loop-j-test.true))
 
 pub bounds-text-next : goal.bounds-text-next
 bounds-text-next c =
-    let R = c.requires.n_le_most_words in
+    let R = c.requires.room in
     let W = c.put_number-next.ensures in
-    omega (arith, room c.loop-j.invariant c.loop-j-test.true R.0 R.3 (c.requires.by_index c.loop-j.j c.loop-j-test.true), W.end, wrote-length W)
+    omega (arith, room c.loop-j.invariant c.loop-j-test.true R.0 R.2 (c.requires.by_index c.loop-j.j c.loop-j-test.true), W.end, wrote-length W)
 
 pub overflow_add-next : goal.overflow_add-next
 overflow_add-next c =
-    let R = c.requires.n_le_most_words in
+    let R = c.requires.room in
     let W = c.put_number-next.ensures in
     omega (
       arith,
-      room c.loop-j.invariant c.loop-j-test.true R.0 R.3 (c.requires.by_index c.loop-j.j c.loop-j-test.true),
+      room c.loop-j.invariant c.loop-j-test.true R.0 R.2 (c.requires.by_index c.loop-j.j c.loop-j-test.true),
       W.end,
       wrote-length W,
       wrote-length c.loop-j.invariant.wrote,
@@ -42,11 +42,11 @@ overflow_add-next c =
 pub loop-j-preserved : goal.loop-j-preserved
 loop-j-preserved c =
     leaving-more c.loop-j.invariant c.loop-j-test.true c.put_number-next.ensures
-    (omega (arith, c.requires.by_index c.loop-j.j c.loop-j-test.true, c.requires.n_le_most_words.0)) refl c.separator_of.ensures
+    (omega (arith, c.requires.by_index c.loop-j.j c.loop-j-test.true, c.requires.room.0)) refl c.separator_of.ensures
 
 pub returns : goal.returns
 returns c =
     let a = c.args in
     let l = c.loop-j in
-    let all : l.j ≡ a.n = omega (arith, l.invariant.upto) in
+    let all : l.j ≡ length a.words.now = omega (arith, l.invariant.upto) in
     subst (λ (k : ℕ). Wrote a.text.now a.at (leavers a.w (λ i. get_or a.words.now i 0) k) l.next l.text) all l.invariant.wrote

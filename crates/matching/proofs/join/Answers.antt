@@ -4,4 +4,4 @@ use Rattle.matching.proofs.Graphs.{edge-joined}
 use Rattle.matching.proofs.join.Goals as goal
 
 pub returns : goal.returns
-returns c = edge-joined c.args.edges.now c.args.bank c.args.port c.with.result (omega arith) c.with.ensures
+returns c = edge-joined c.args.edges.now c.args.bank c.args.port c.insert.result (omega arith) c.insert.ensures

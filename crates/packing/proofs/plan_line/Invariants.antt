@@ -4,4 +4,4 @@ use Rattle.packing.specs.inner.Plans.{Planned}
 use Rattle.packing.proofs.plan_line.Given as goal
 
 abbrev pub invariant-loop-k : goal.invariant-loop-k
-invariant-loop-k l = Planned l.w (order_of (length l.images) l.images) l.words l.k l.reads l.forward l.back l.writes
+invariant-loop-k l = Planned l.w (order_of (length l.images) l.images) l.words l.k l.plan.reads l.plan.forward l.plan.back l.plan.writes

@@ -1,9 +1,8 @@
 -- `put_set`: what the functions of a line need of the state before it, and the state behind it.
-use Rattle.std.proofs.Common.{ℕ, ◌+◌, ◌*◌, ◌/◌, ◌^◌, ◌<◌, ◌≤◌, ◌≡◌, List, length, refl, sym, ap, ◌∙◌, arith, rules}
+use Rattle.std.proofs.Common.{ℕ, ◌+◌, ◌*◌, ◌/◌, ◌^◌, ◌<◌, ◌≤◌, ◌≡◌, List, length, sym, ap, ◌∙◌, arith, rules}
 use Rattle.laws.specs.Permutation.{Permutes}
 use Rattle.images.specs.Images.{order_of}
 use Rattle.bits.specs.inner.Writing.{whole_of}
-use Rattle.division.specs.Reciprocal.{Reciprocal}
 use Rattle.places.specs.Places.{Roomy}
 use Rattle.tables.specs.Header.{header_bits}
 use Rattle.tables.specs.Terms.{cycles, file_length}
@@ -74,7 +73,7 @@ loop-t-init c =
     let w = c.args.shape.width in
     let none : ℕ → ℕ → ℕ = λ _ _. 0 in
     record {
-      blank = blank-numbered w (search rules, c.numbered-forward.ensures) (search rules, c.numbered-back.ensures);
+      blank = blank-numbered w (search rules, c.numbered.ensures) (search rules, c.numbered-2.ensures);
       putting = record {
         opened = rw (line_at-zero n w) c.begin-held.ensures.0;
         lines = none;
@@ -89,7 +88,7 @@ take_line-requires-clause-ranked c =
     let S = c.requires.shaped.0 in
     let P = c.loop-t.invariant.putting in
     λ m. ranked-unread c.args.images.now _ (due S c.requires.shaped.1 c.requires.by_index.0.1 c.requires.words_in_bounds.0 c.loop-t-test.true P.scheduled)
-        (roomy S) (P.unread m) m
+    (roomy S) (P.unread m) m
 
 pub plan_line-requires-clause-w_nonzero : goal.plan_line-requires-clause-w_nonzero
 plan_line-requires-clause-w_nonzero c =
@@ -158,7 +157,7 @@ loop-t-preserved c =
     (due S c.requires.shaped.1 c.requires.by_index.0.1 c.requires.words_in_bounds.0 c.loop-t-test.true c.loop-t.invariant.putting.scheduled) in
     let L = c.plan_line.ensures in
     let placed = ap (λ (x : ℕ). whole_of c.put_line-held.new.file x c.put_line-held.result) (sym (ends S l.t)) ∙ c.put_line-held.ensures.1
-    ∙ ap (λ (x : ℕ). put_line n w (whole_of l.file x l.held) x c.plan_line.new.reads c.plan_line.new.forward c.plan_line.new.writes) (stands S l.t) in
+    ∙ ap (λ (x : ℕ). put_line n w (whole_of l.file x l.held) x c.plan_line.new.plan.reads c.plan_line.new.plan.forward c.plan_line.new.plan.writes) (stands S l.t) in
     let fits : file_length n w ≤ length (whole_of c.begin-held.new.file (header_bits n) c.begin-held.result) =
     omega (arith, c.requires.words_in_bounds.1, c.begin-held.ensures.1.long) in
     record {

@@ -10,8 +10,8 @@ pub first-requires-clause-by_index : goal.first-requires-clause-by_index
 first-requires-clause-by_index c = λ k l.
     get_or-replicate {A = ℕ} most_width k unowned 0 (omega (arith, l, c.requires.by_index.4.dims.narrow))
 
-pub take_words-requires-clause-takeable : goal.take_words-requires-clause-takeable
-take_words-requires-clause-takeable c =
+pub take_words-requires : goal.take_words-requires
+take_words-requires c =
     let U = c.requires.by_index.4 in
     due-takeable U (due-foremost U c.first.result c.first.ensures) c.first.ensures.long
 

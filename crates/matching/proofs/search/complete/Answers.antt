@@ -13,7 +13,7 @@ loop-idle-preserved c =
     let F = c.loop-idle.invariant in
     let bank = c.lowest-bank in
     let A = c.in-Ok.ensures c.args.width (filling-ready F bank.result bank.ensures.1) in
-    filling-more F bank.result bank.ensures.1 A c.without-free.ensures c.with-taken.ensures c.without-idle.ensures
+    filling-more F bank.result bank.ensures.1 A c.without-free.ensures c.insert-taken.ensures c.without-idle.ensures
 
 pub returns-in-Err : goal.returns-in-Err
 returns-in-Err c =

@@ -27,7 +27,7 @@ loop-bank-preserved c =
     let edges = get_or c.args.edges.now l.bank 0 in
     elim c.if-ports-eq0.branch [
       | then-ports-eq0 w ↦ rw (w.owner-is, w.seats-is, w.free-is, w.idle-is)
-          (seating-idle few c.loop-bank-test.true l.invariant (and_none edges l.free w.if-ports-eq0.true) w.with-idle.ensures)
+          (seating-idle few c.loop-bank-test.true l.invariant (and_none edges l.free w.if-ports-eq0.true) w.insert-idle.ensures)
       | else-ports-eq0 w ↦
           let h = and_in edges l.free w.least-port.result w.least-port.ensures.1 in
           rw (w.owner-is, w.seats-is, w.free-is, w.idle-is)

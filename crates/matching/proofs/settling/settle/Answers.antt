@@ -8,7 +8,7 @@ settle_bank-port-requires-clause-bank_lt_width c =
     let r = c.requires.ranked in
     let i = c.loop-bank.invariant in
     let below = c.loop-bank-test.true in
-    let seat = seats-preferred c.args.seats.now c.loop-bank.bank i.1 c.with.ensures c.minus-unseated.ensures r.1 below in
+    let seat = seats-preferred c.args.seats.now c.loop-bank.bank i.1 c.insert.ensures c.minus-unseated.ensures r.1 below in
     (below, λ k h. (i.0.opened.inside k h).0, r.0, seat)
 
 pub loop-bank-preserved : goal.loop-bank-preserved
@@ -17,5 +17,5 @@ loop-bank-preserved c =
     let below = c.loop-bank-test.true in
     let S = c.settle_bank-port.ensures c.args.layout.width (placed-settling i.0 below) in (
       placed-more i.0 below S c.without-vacant.ensures,
-      unseated-more c.args.seats.now c.loop-bank.bank i.1 c.with.ensures c.minus-unseated.ensures,
+      unseated-more c.args.seats.now c.loop-bank.bank i.1 c.insert.ensures c.minus-unseated.ensures,
     )

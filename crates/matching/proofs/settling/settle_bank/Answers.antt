@@ -66,11 +66,11 @@ bounds-owner-held c =
     let held = hopeful-few S (get_or c.args.edges.now c.args.bank 0) c.port_of-held.result c.port_of-held.ensures.0 in
     held.0
 
-pub with-requires : goal.with-requires
-with-requires c =
+pub insert-requires : goal.insert-requires
+insert-requires c =
     let S = c.loop-layout.invariant.1 _ c.requires.by_index.1 in
     let held = hopeful-few S (get_or c.args.edges.now c.args.bank 0) c.port_of-held.result c.port_of-held.ensures.0 in
-    (held.0, omega arith)
+    held.0
 
 pub augment-requires : goal.augment-requires
 augment-requires c =
@@ -80,7 +80,7 @@ augment-requires c =
     let W = chosen-wanted a.edges.now a.keys.now a.bank l.hopeful c.choose-port.ensures in
     let held = c.port_of-held in
     let h = (hopeful-few S (get_or a.edges.now a.bank 0) held.result held.ensures.0).1 in
-    let T = trial S (omega arith) c.if-rival-own.false h held.ensures.1 c.without.ensures c.without-others.ensures c.with.ensures in
+    let T = trial S (omega arith) c.if-rival-own.false h held.ensures.1 c.without.ensures c.without-others.ensures c.insert.ensures in
     (_, candidate-ready S W T)
 
 pub returns-in-Ok : goal.returns-in-Ok
@@ -91,7 +91,7 @@ returns-in-Ok c = λ w G.
     let W = chosen-wanted a.edges.now a.keys.now a.bank l.hopeful c.choose-port.ensures in
     let held = c.port_of-held in
     let h = (hopeful-few S (get_or a.edges.now a.bank 0) held.result held.ensures.0).1 in
-    let T = trial S (omega arith) c.if-rival-own.false h held.ensures.1 c.without.ensures c.without-others.ensures c.with.ensures in
+    let T = trial S (omega arith) c.if-rival-own.false h held.ensures.1 c.without.ensures c.without-others.ensures c.insert.ensures in
     subst (λ (x : List ℕ). Settled (Edge a.edges.now) w a.keys.now x a.bank a.vacant c.augment.new.owner c.choose-port.result)
     l.invariant.0 (settled-moved S W T (c.in-Ok.ensures w (candidate-ready S W T)))
 
@@ -101,11 +101,11 @@ bounds-owner-held-in-Err c =
     let held = hopeful-few S (get_or c.args.edges.now c.args.bank 0) c.port_of-held.result c.port_of-held.ensures.0 in
     held.0
 
-pub with-hopeful-requires : goal.with-hopeful-requires
-with-hopeful-requires c =
+pub insert-hopeful-requires : goal.insert-hopeful-requires
+insert-hopeful-requires c =
     let S = c.loop-layout.invariant.1 _ c.requires.by_index.1 in
     let held = hopeful-few S (get_or c.args.edges.now c.args.bank 0) c.port_of-held.result c.port_of-held.ensures.0 in
-    (held.0, omega arith)
+    held.0
 
 pub loop-layout-smaller : goal.loop-layout-smaller
 loop-layout-smaller c =
@@ -115,8 +115,8 @@ loop-layout-smaller c =
     let W = chosen-wanted a.edges.now a.keys.now a.bank l.hopeful c.choose-port.ensures in
     let held = c.port_of-held in
     let h = (hopeful-few S (get_or a.edges.now a.bank 0) held.result held.ensures.0).1 in
-    let T = trial S (omega arith) c.if-rival-own.false h held.ensures.1 c.without.ensures c.without-others.ensures c.with.ensures in
-    hopeful-less S W T (c.in-Err.ensures _ (candidate-ready S W T)) c.with-hopeful.ensures
+    let T = trial S (omega arith) c.if-rival-own.false h held.ensures.1 c.without.ensures c.without-others.ensures c.insert.ensures in
+    hopeful-less S W T (c.in-Err.ensures _ (candidate-ready S W T)) c.insert-hopeful.ensures
 
 pub loop-layout-preserved : goal.loop-layout-preserved
 loop-layout-preserved c =
@@ -127,7 +127,7 @@ loop-layout-preserved c =
     let W = chosen-wanted a.edges.now a.keys.now a.bank l.hopeful c.choose-port.ensures in
     let held = c.port_of-held in
     let h = (hopeful-few S (get_or a.edges.now a.bank 0) held.result held.ensures.0).1 in
-    let T = trial S (omega arith) c.if-rival-own.false h held.ensures.1 c.without.ensures c.without-others.ensures c.with.ensures in
+    let T = trial S (omega arith) c.if-rival-own.false h held.ensures.1 c.without.ensures c.without-others.ensures c.insert.ensures in
     restored S W T (c.in-Err.ensures _ (candidate-ready S W T))
     in (
       back ∙ c.loop-layout.invariant.0,
@@ -138,7 +138,7 @@ loop-layout-preserved c =
           let W = chosen-wanted a.edges.now a.keys.now a.bank l.hopeful c.choose-port.ensures in
           let held = c.port_of-held in
           let h = (hopeful-few S (get_or a.edges.now a.bank 0) held.result held.ensures.0).1 in
-          let T = trial S (omega arith) c.if-rival-own.false h held.ensures.1 c.without.ensures c.without-others.ensures c.with.ensures in
-          subst (λ (x : List ℕ). Settling (Edge a.edges.now) w x a.bank a.vacant c.with-hopeful.result) (sym back)
-          (settling-less S W T (c.in-Err.ensures w (candidate-ready S W T)) c.with-hopeful.ensures),
+          let T = trial S (omega arith) c.if-rival-own.false h held.ensures.1 c.without.ensures c.without-others.ensures c.insert.ensures in
+          subst (λ (x : List ℕ). Settling (Edge a.edges.now) w x a.bank a.vacant c.insert-hopeful.result) (sym back)
+          (settling-less S W T (c.in-Err.ensures w (candidate-ready S W T)) c.insert-hopeful.ensures),
     )

@@ -23,18 +23,18 @@ pub walk-preserved : goal.walk-preserved
 walk-preserved c =
     let q = c.requires.forward_len in
     let a = ahead c.args.forward.now c.args.back.now c.walk.x c.partner_of.ensures c.from.ensures c.partner_of-in-walk.ensures c.from-x.ensures in
-    walking_on _ _ c.requires.inverses q.0 q.2 c.loops.invariant c.walk.invariant c.with-lower.ensures c.without-left.ensures a c.if-x-start.false
+    walking_on _ _ c.requires.inverses q.0 q.2 c.loops.invariant c.walk.invariant c.insert-lower.ensures c.without-left.ensures a c.if-x-start.false
 
 pub loops-preserved : goal.loops-preserved
 loops-preserved c =
     let q = c.requires.forward_len in
     let a = ahead c.args.forward.now c.args.back.now c.walk.x c.partner_of.ensures c.from.ensures c.partner_of-in-walk.ensures c.from-x.ensures in
-    let L = walking-closed _ _ c.requires.inverses q.0 q.2 c.loops.invariant c.walk.invariant c.with-lower.ensures c.without-left.ensures a c.if-x-start.true in
+    let L = walking-closed _ _ c.requires.inverses q.0 q.2 c.loops.invariant c.walk.invariant c.insert-lower.ensures c.without-left.ensures a c.if-x-start.true in
     before_more _ _ c.requires.inverses.permutes q.0 _ _ _ L.painted L.last c.lowest-start.ensures.1 c.lowest-start.ensures.2
 
 pub returns : goal.returns
 returns c =
     let q = c.requires.forward_len in
     let a = ahead c.args.forward.now c.args.back.now c.walk.x c.partner_of.ensures c.from.ensures c.partner_of-in-walk.ensures c.from-x.ensures in
-    let L = walking-closed _ _ c.requires.inverses q.0 q.2 c.loops.invariant c.walk.invariant c.with-lower.ensures c.without-left.ensures a c.if-x-start.true in
+    let L = walking-closed _ _ c.requires.inverses q.0 q.2 c.loops.invariant c.walk.invariant c.insert-lower.ensures c.without-left.ensures a c.if-x-start.true in
     all_settled _ _ c.requires.inverses.permutes q.0 _ _ c.if-left-eq0.true L.painted.sound
