@@ -1,10 +1,6 @@
 -- `aim_group`: turn j cuts the address of bank from + j out of the field, and finds it outside the frame or goes on.
 use Rattle.std.proofs.Common.{◌+◌, ◌-◌, ◌≡◌, sym, ◌∙◌, arith}
-<<<<<<< HEAD
 use Rattle.tables.specs.Terms.{address_bits}
-=======
-use native.Mathlib.Nat.{add-zero, zero-mul}
->>>>>>> origin/main
 use Rattle.tables.proofs.Groups.{bits_left, bits-turned, group-address}
 use Rattle.tables.proofs.Shapes.{shape_fields}
 use Rattle.machine.proofs.Taking.{taken-same, taken-far}

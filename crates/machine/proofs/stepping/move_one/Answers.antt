@@ -1,13 +1,9 @@
 -- `move_one`: the two addresses are cut out of the line's field, each is tested, and the word moves.
 use Rattle.std.proofs.Common.{◌*◌, ◌∙◌, arith}
-<<<<<<< HEAD
 use Rattle.tables.specs.Terms.{address_bits}
 use Rattle.tables.proofs.Dims.{address_bits-few}
 use Rattle.tables.proofs.Narrow.{field_room, field-taken, one-read, one-write}
 use Rattle.tables.proofs.Shapes.{shape_fields}
-=======
-use Rattle.tables.proofs.Narrow.{size_few, field_room, field-taken, one-read, one-write}
->>>>>>> origin/main
 use Rattle.machine.proofs.Narrow.{read_out, one_out, one-moved}
 use Rattle.machine.proofs.stepping.move_one.Goals as goal
 

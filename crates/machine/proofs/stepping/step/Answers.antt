@@ -10,12 +10,6 @@ returns-in_err-shape c =
     let (e, is, same) = err_from_is_err_and c.from_residual.result c.from_residual.ensures.1 in
     rw (is, same) (open-refused c.args.file.now c.args.clock c.args.first.now c.args.second.now c.args.words.now c.args.out.now _
     (sym c.in_err-shape.ensures))
-<<<<<<< HEAD
-=======
-
-pub test-requires : goal.test-requires
-test-requires c = opened-shape _ _ (sym c.«open».ensures ∙ c.in_ok-shape.was)
->>>>>>> origin/main
 
 pub returns-in_err-test : goal.returns-in_err-test
 returns-in_err-test c =
@@ -29,11 +23,7 @@ pub step_ready-requires-clause-in_range : goal.step_ready-requires-clause-in_ran
 step_ready-requires-clause-in_range c =
     let passed = tests-passed c.in_ok-shape.shape.words c.in_ok-shape.shape.width c.args.file.now c.args.clock
     c.args.first.now c.args.second.now c.args.words.now c.args.out.now (sym c.in_ok-test.was ∙ c.test.ensures) in
-<<<<<<< HEAD
     passed.0
-=======
-    (opened-shape _ _ (sym c.«open».ensures ∙ c.in_ok-shape.was), passed.0)
->>>>>>> origin/main
 
 pub step_ready-requires-clause-room : goal.step_ready-requires-clause-room
 step_ready-requires-clause-room c =
