@@ -1,12 +1,11 @@
-// The two rows of addresses of a line of many banks. This module is private to the crate, so its functions may have a `requires`.
+// The banks of the two memories, and the two rows of addresses of a line of many banks. This module is private to the
+// crate, so its functions may have a `requires`.
 ghost use Rattle.std.specs.Prelude.{◌≡◌, List, ℕ, ◌+◌, ◌*◌, ◌<◌, ◌≤◌, length, get_or};
 ghost use Rattle.std.proofs.Common.{refl, ◌∙◌};
 ghost use Rattle.bits.specs.inner.Taking.{Room};
-ghost use Rattle.tables.specs.Terms.{cycles};
-ghost use Rattle.tables.specs.Format.{Shaped};
-ghost use Rattle.tables.specs.inner.Lines.{row_at};
+ghost use Rattle.tables.specs.Terms.{cycles, address_bits};
 ghost use Rattle.machine.specs.Step.{spot};
-ghost use Rattle.machine.specs.inner.Rows.{spot_in, word_in, Taken, Outside, RowTaken, Sent, stored};
+ghost use Rattle.machine.specs.inner.Rows.{row_of, spot_in, word_in, Taken, Outside, RowTaken, Sent, stored};
 
 use bits::Cursor;
 use limits::MOST_WIDTH;
@@ -15,15 +14,14 @@ use tables::Shape;
 
 // The word of a memory at an address of a half of a bank.
 pub fn spot_of(shape: Shape, half: usize, bank: usize, address: usize) -> usize
-    requires shaped { Shaped shape }
-    requires half_bound { (half < 2) × (bank < shape.width) × (address < cycles shape.words shape.width) }
+    requires { (half < 2) × (bank < shape.width) × (address < cycles shape.words shape.width) }
     ensures { (result ≡ spot (cycles shape.words shape.width) half bank address) × (result < 2 * shape.words) }
 {
     bank * (2 * shape.cycles) + (half * shape.cycles + address)
 }
 
-// The banks of the first memory: each reads at its address in a half, and its word is put in `got`. A bank is faulty whose address is outside the
-// frame.
+// The banks of the first memory: each reads at its address in a half, and its word is put in `got`. A bank is faulty
+// whose address is outside the frame.
 #[derive(Drop)]
 struct Fetched<'a> {
     half: usize,
@@ -56,7 +54,8 @@ impl Banks for Fetched<'_> {
     ghost same_then = { λ a b c s t. (s.0 ∙ t.0, s.1 ∙ t.1, s.2 ∙ t.2) };
 }
 
-// Takes the read addresses of the line that comes next, and puts the words that stand there in a half of the first memory in `got`.
+// Takes the read addresses of the line that comes next, and puts the words that stand there in a half of the first
+// memory in `got`.
 pub fn fetch(
     file: &[u8],
     cursor: Cursor,
@@ -65,17 +64,16 @@ pub fn fetch(
     first: &[u16],
     got: &mut [u16; MOST_WIDTH],
 ) -> Option<Cursor>
-    requires shaped { Shaped shape × (8 ≤ length file.now) × Room cursor (shape.width * shape.addressing) }
+    requires in_file { (8 ≤ length file.now) × Room cursor (shape.width * address_bits shape.words shape.width) }
     requires half_bound { (half < 2) × (2 * shape.words ≤ length first.now) }
-    ensures { RowTaken result (word_in shape first.now half) cursor (row_at file.now cursor.at shape.addressing) shape
-        got.new }
+    ensures { RowTaken result (word_in shape first.now half) cursor (row_of shape file.now cursor.at) shape got.new }
 {
     let mut banks = Fetched { half, first, got };
     take_row(file, cursor, shape, &mut banks)
 }
 
-// The banks of the second memory: each writes at its address in a half, and its spot is put in `to`. A bank is faulty whose address is outside the
-// frame.
+// The banks of the second memory: each writes at its address in a half, and its spot is put in `to`. A bank is faulty
+// whose address is outside the frame.
 #[derive(Drop)]
 struct Aimed<'a> {
     half: usize,
@@ -108,10 +106,16 @@ impl Banks for Aimed<'_> {
 }
 
 // Takes the write addresses of the line, which come next, and puts their spots in a half of the second memory in `to`.
-pub fn aim(file: &[u8], cursor: Cursor, shape: Shape, half: usize, to: &mut [u16; MOST_WIDTH]) -> Option<Cursor>
-    requires shaped { Shaped shape × (8 ≤ length file.now) × Room cursor (shape.width * shape.addressing) }
+pub fn aim(
+    file: &[u8],
+    cursor: Cursor,
+    shape: Shape,
+    half: usize,
+    to: &mut [u16; MOST_WIDTH],
+) -> Option<Cursor>
+    requires in_file { (8 ≤ length file.now) × Room cursor (shape.width * address_bits shape.words shape.width) }
     requires half_bound { (half < 2) }
-    ensures { RowTaken result (spot_in shape half) cursor (row_at file.now cursor.at shape.addressing) shape to.new }
+    ensures { RowTaken result (spot_in shape half) cursor (row_of shape file.now cursor.at) shape to.new }
 {
     let mut banks = Aimed { half, to };
     take_row(file, cursor, shape, &mut banks)
@@ -125,7 +129,7 @@ pub fn put_words(
     to: &[u16; MOST_WIDTH],
     second: &mut [u16],
 )
-    requires { Shaped shape × Sent shape got.now sources.now to.now second.old }
+    requires { Sent shape got.now sources.now to.now second.old }
     ensures { second.new
         ≡ stored (λ k. get_or to.now k 0) (λ k. get_or got.now (get_or sources.now k 0) 0) shape.width second.old }
 {

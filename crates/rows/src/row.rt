@@ -1,5 +1,5 @@
-// A row of addresses, one for each bank of a line. Several addresses are taken as one field, and each is tested and used as it is taken. Only our own
-// crates call these functions, so they may have a `requires`.
+// A row of addresses, one for each bank of a line. Several addresses are taken as one field, and each is tested and
+// used as it is taken. Only our own crates call these functions, so they may have a `requires`.
 ghost use Rattle.std.specs.Prelude.{◌≡◌, List, ℕ, ◌+◌, ◌*◌, ◌<◌, ◌≤◌, length, get_or};
 ghost use Rattle.bits.specs.Bits.{field};
 ghost use Rattle.bits.specs.inner.Taking.{most_field, Room};
@@ -44,13 +44,15 @@ pub trait Banks {
     ghost same_then: { (a b c : Self) → Same a b → Same b c → Same a c };
 }
 
-// Takes the addresses of `count` banks from bank `from` on, which stand in one field. Whether one of the banks is faulty.
+// Takes the addresses of `count` banks from bank `from` on, which stand in one field. Whether one of the banks is
+// faulty.
 fn take_group<B: Banks>(row: u64, count: usize, from: usize, shape: Shape, banks: &mut B) -> bool
     requires in_bounds { (from + count ≤ shape.width) × (count * address_bits shape.words shape.width ≤ most_field) }
     requires ready { B.Ready shape banks.old }
     ensures same { B.Same banks.old banks.new }
     ensures told { (start : B) (file : List ℕ) (at : ℕ)
-        → row ≡ field file (at + from * address_bits shape.words shape.width) (count * address_bits shape.words shape.width)
+        → row ≡ field file (at + from * address_bits shape.words shape.width)
+        (count * address_bits shape.words shape.width)
         → B.On shape start (row_at file at (address_bits shape.words shape.width)) from banks.old
         → To result (B.Fault shape start (row_at file at (address_bits shape.words shape.width)))
         (B.On shape start (row_at file at (address_bits shape.words shape.width)) (from + count) banks.new) }
@@ -78,7 +80,8 @@ pub fn take_row<B: Banks>(
     requires ready { B.Ready shape banks.old }
     ensures same { B.Same banks.old banks.new }
     ensures told { B.On shape banks.old (row_at file.now cursor.at (address_bits shape.words shape.width)) 0 banks.old
-        → RowTo result cursor shape (B.Fault shape banks.old (row_at file.now cursor.at (address_bits shape.words shape.width)))
+        → RowTo result cursor shape
+        (B.Fault shape banks.old (row_at file.now cursor.at (address_bits shape.words shape.width)))
         (B.On shape banks.old (row_at file.now cursor.at (address_bits shape.words shape.width)) shape.width banks.new) }
 {
     let width = shape.width;

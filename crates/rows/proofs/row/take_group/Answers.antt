@@ -1,5 +1,5 @@
 -- `row::take_group` meets its contract: turn j cuts the address of bank from + j out of the field, and finds the bank faulty or goes on.
-use Rattle.std.proofs.Common.{◌≡◌, ◌+◌, ◌-◌, sym, subst, ◌∙◌, ℕ, arith}
+use Rattle.std.proofs.Common.{◌≡◌, ◌+◌, ◌-◌, sym, ◌∙◌, arith}
 use Rattle.laws.proofs.Choices.{false-true}
 use Rattle.tables.specs.inner.Lines.{row_at}
 use Rattle.tables.specs.Terms.{address_bits}

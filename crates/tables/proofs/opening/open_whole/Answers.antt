@@ -1,13 +1,12 @@
 -- `opening::open_whole` meets its contract: each return stands at its place in the chain of tests. The last byte is filled by fewer than
 -- eight bits.
-use Rattle.std.proofs.Common.{ℕ, ◌≡◌, ◌+◌, ◌*◌, ◌-◌, List, length, refl, ap, ap₂, ◌∙◌, arith}
+use Rattle.std.proofs.Common.{ℕ, ◌≡◌, ◌+◌, ◌*◌, ◌-◌, List, length, refl, ap₂, ◌∙◌, arith}
 use Rattle.laws.proofs.Choices.{if_lt-yes, if_lt-no, if_eq-yes, if_eq-no}
 use Rattle.bits.specs.Bits.{field}
 use Rattle.tables.specs.Terms.{cycles, file_length}
 use Rattle.tables.specs.Format.{line_at, filling, length_test}
 use Rattle.tables.specs.Shapes.{Size}
 use Rattle.tables.specs.declared.Shape.TheInside.{Inside}
-use Rattle.std.specs.Prelude.{Ok}
 use Rattle.tables.proofs.Dims.{line_at-few, file_length-reaches, file_length-tight, file_length-header}
 use Rattle.tables.proofs.Header.{bytes-few}
 use Rattle.tables.proofs.Longest.{lines-longest, file_length-longest}
