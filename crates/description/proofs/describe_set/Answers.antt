@@ -1,5 +1,5 @@
 -- `describe_set`: no set has more words than the longest frame.
-use Rattle.std.proofs.Common.{◌≤◌, arith}
+use Rattle.std.proofs.Common.{arith}
 use Rattle.tables.proofs.Form.{opened-shape}
 use Rattle.description.proofs.describe_set.Goals as goal
 

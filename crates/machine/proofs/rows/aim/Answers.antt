@@ -1,5 +1,5 @@
 -- `aim`: each turn takes one group of banks, from where the one before it ended, and the banks that are left are a shorter group.
-use Rattle.std.proofs.Common.{ℕ, ◌+◌, ◌*◌, ◌-◌, ◌≤◌, ◌≡◌, sym, ap, ◌∙◌, arith}
+use Rattle.std.proofs.Common.{ℕ, ◌+◌, ◌*◌, ◌-◌, ◌≡◌, sym, ap, ◌∙◌, arith}
 use native.Mathlib.Nat.{add-mul, zero-mul}
 use Rattle.bits.specs.Reading.{onward}
 use Rattle.bits.proofs.OnePass.{onward-none}

@@ -1,5 +1,5 @@
 -- `aim` has taken the addresses of the first k banks.
-use Rattle.std.proofs.Common.{◌+◌, ◌-◌, ◌*◌, ◌≤◌, ◌≡◌}
+use Rattle.std.proofs.Common.{◌-◌, ◌*◌, ◌≤◌, ◌≡◌}
 use Rattle.bits.specs.Reading.{onward}
 use Rattle.tables.specs.inner.Lines.{row_at}
 use Rattle.machine.specs.inner.Rows.{spot_in, Taken}

@@ -1,5 +1,5 @@
 -- `aim_group`: turn j cuts the address of bank from + j out of the field, and finds it outside the frame or goes on.
-use Rattle.std.proofs.Common.{ℕ, ◌+◌, ◌*◌, ◌-◌, ◌≤◌, ◌≡◌, List, sym, ◌∙◌, arith}
+use Rattle.std.proofs.Common.{◌+◌, ◌-◌, ◌≡◌, sym, ◌∙◌, arith}
 use native.Mathlib.Nat.{add-zero, zero-mul}
 use Rattle.tables.proofs.Groups.{bits_left, bits-turned, group-address}
 use Rattle.tables.proofs.Narrow.{size_few}

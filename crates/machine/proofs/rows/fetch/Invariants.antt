@@ -1,5 +1,5 @@
 -- `fetch` has taken the addresses of the first b banks.
-use Rattle.std.proofs.Common.{◌+◌, ◌-◌, ◌*◌, ◌≤◌, ◌≡◌}
+use Rattle.std.proofs.Common.{◌-◌, ◌*◌, ◌≤◌, ◌≡◌}
 use Rattle.bits.specs.Reading.{onward}
 use Rattle.tables.specs.inner.Lines.{row_at}
 use Rattle.machine.specs.inner.Rows.{word_in, Taken}

@@ -1,5 +1,5 @@
 -- `move_one`: the two addresses are cut out of the line's field, each is tested, and the word moves.
-use Rattle.std.proofs.Common.{◌*◌, ◌≡◌, ◌∙◌, arith}
+use Rattle.std.proofs.Common.{◌*◌, ◌∙◌, arith}
 use Rattle.tables.proofs.Narrow.{size_few, field_room, field-taken, one-read, one-write}
 use Rattle.machine.proofs.Narrow.{read_out, one_out, one-moved}
 use Rattle.machine.proofs.stepping.move_one.Goals as goal

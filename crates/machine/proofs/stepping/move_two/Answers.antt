@@ -1,5 +1,5 @@
 -- `move_two`: the four addresses and the switch bit are cut out of the line's field, the addresses are tested, and both words move.
-use Rattle.std.proofs.Common.{ℕ, ◌+◌, ◌*◌, ◌-◌, ◌/◌, ◌%◌, ◌^◌, ◌<◌, ◌≤◌, ◌≡◌, List, length, ◌∙◌, arith, rules}
+use Rattle.std.proofs.Common.{ℕ, ◌+◌, ◌*◌, ◌-◌, ◌/◌, ◌%◌, ◌^◌, ◌<◌, ◌≤◌, ◌≡◌, List, ◌∙◌, arith}
 use native.Mathlib.Nat.{mul-le-mul_right}
 use Rattle.bits.specs.Bits.{field}
 use Rattle.bits.specs.inner.Taking.{WithZeros, field_behind}

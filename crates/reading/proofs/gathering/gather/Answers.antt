@@ -1,11 +1,11 @@
 -- `gather`: a line is refused, which stops the scan there, or the scan goes on behind it, by the cursor that stands there.
-use Rattle.std.proofs.Common.{ℕ, ◌+◌, ◌<◌, ◌≤◌, ◌≡◌, refl, sym, ap, ap₂, ◌∙◌, add-one, arith}
+use Rattle.std.proofs.Common.{ℕ, ◌+◌, ◌<◌, ◌≤◌, ◌≡◌, refl, ap, ap₂, ◌∙◌, add-one, arith}
 use Rattle.std.proofs.lemmas.Result.{err_from_is_err_and}
 use Rattle.laws.specs.Sum.{sum}
 use Rattle.bits.specs.Reading.{onward}
 use Rattle.bits.specs.declared.reader.Cursor.{Cursor}
 use Rattle.tables.specs.Terms.{cycles, line_bits}
-use Rattle.tables.specs.Format.{line_at, line_crossings}
+use Rattle.tables.specs.Format.{line_crossings}
 use Rattle.tables.proofs.Dims.{cycles-positive, cycles-few}
 use Rattle.tables.proofs.Crossings.{crossings-fit}
 use Rattle.reading.specs.inner.Gathering.{behind_lines}

@@ -1,6 +1,6 @@
 -- `read_leavers`: a line is refused, or all lines passed and the gathered words are the inverse of the images that reading writes.
-use Rattle.std.proofs.Common.{◌≡◌, sym, ap, ◌∙◌}
-use Rattle.std.specs.Prelude.{Ok, Err}
+use Rattle.std.proofs.Common.{sym, ap, ◌∙◌}
+use Rattle.std.specs.Prelude.{Ok}
 use Rattle.std.proofs.lemmas.Result.{err_from_is_err_and}
 use Rattle.laws.proofs.Choices.{zero-not-one}
 use Rattle.laws.specs.Tabulate.{overwrite}

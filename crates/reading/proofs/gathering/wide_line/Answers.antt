@@ -1,6 +1,6 @@
 -- `wide_line`: the cursor is carried on from the read addresses to the switch bits and to the write addresses, and what is found there is what the scan of
 -- the file finds in line t.
-use Rattle.std.proofs.Common.{ℕ, ◌+◌, ◌*◌, ◌≡◌, length, sym, ap, ◌∙◌, arith, rules}
+use Rattle.std.proofs.Common.{◌+◌, ◌*◌, ◌≡◌, sym, ap, ◌∙◌, arith}
 use Rattle.refusal.specs.declared.Refusal.TheVariants.{ReadAddress, WriteAddress}
 use Rattle.std.proofs.lemmas.Result.{err_from_is_err_and}
 use Rattle.bits.specs.Reading.{onward}
@@ -46,8 +46,8 @@ returns-then-spare_used c file Z G k refused next =
     carry-refused c.args.shape c.args.cursor c.args.t c.requires.shaped.0 Z c.requires.at_value G (rw c.in_ok-next.ensures.ok_part at c.take_reads.ensures).0
     (rw c.in_ok-next.ensures.ok_part at c.take_reads.ensures).1.sound c.carry-carried.ensures.2 (sym c.if-spare_used.true ∙ c.spare_used.ensures) k refused next
 
-pub take_writes-requires-clause-shaped : goal.take_writes-requires-clause-shaped
-take_writes-requires-clause-shaped c =
+pub take_writes-written-requires-clause-shaped : goal.take_writes-written-requires-clause-shaped
+take_writes-written-requires-clause-shaped c =
     let S = c.requires.shaped.0 in
     let row = c.args.shape.width * c.args.shape.addressing in
     let behind = carried_on c.args.cursor row (rw c.in_ok-next.ensures.ok_part at c.take_reads.ensures).0 c.args.shape.switches c.carry-carried.ensures.0 in (
@@ -56,8 +56,8 @@ take_writes-requires-clause-shaped c =
       room-behind c.args.cursor (row + c.args.shape.switches) behind c.requires.shaped.1 (omega (arith, (line-fits S.dims (shape_same S)).all)),
     )
 
-pub take_writes-requires-clause-by_index : goal.take_writes-requires-clause-by_index
-take_writes-requires-clause-by_index c =
+pub take_writes-written-requires-clause-by_index : goal.take_writes-written-requires-clause-by_index
+take_writes-written-requires-clause-by_index c =
     let S = c.requires.shaped.0 in
     let told = (rw c.in_ok-next.ensures.ok_part at c.take_reads.ensures) in (
       reads_of c.args.shape.words c.args.shape.width c.args.bytes.now c.args.t,
@@ -78,7 +78,7 @@ returns-in_err-end c =
     (λ file Z G.
     let sent = send c.args.shape c.args.cursor c.args.t S Z c.requires.at_value told.0 c.carry-carried.ensures.2 told.1.sound none told.1.kept in
     write-refused c.args.shape c.args.cursor c.args.t S Z c.requires.at_value G told.0 told.1.sound c.carry-carried.ensures.2 behind none
-    (rw c.in_err-end.ensures.ok_part at (c.take_writes.ensures _ sent)))
+    (rw c.in_err-end.ensures.ok_part at (c.take_writes-written.ensures _ sent)))
 
 pub returns : goal.returns
 returns c file Z G =
@@ -88,7 +88,7 @@ returns c file Z G =
     let row = c.args.shape.width * c.args.shape.addressing in
     let behind = carried_on c.args.cursor row told.0 c.args.shape.switches c.carry-carried.ensures.0 in
     let sent = send c.args.shape c.args.cursor c.args.t S Z c.requires.at_value told.0 c.carry-carried.ensures.2 told.1.sound none told.1.kept in
-    let wrote = rw c.in_ok-end.ensures.ok_part at (c.take_writes.ensures _ sent) in (
+    let wrote = rw c.in_ok-end.ensures.ok_part at (c.take_writes-written.ensures _ sent) in (
       carried_on c.args.cursor (row + c.args.shape.switches) behind row wrote.0 ∙ ap (onward c.args.cursor) (line-fits S.dims (shape_same S)).all,
       crossings-held c.args.shape c.args.cursor c.args.t S Z c.requires.at_value told.0 c.carry-carried.ensures.1,
       line-passes c.args.shape c.args.cursor c.args.t S Z c.requires.at_value G told.0 told.1.sound c.carry-carried.ensures.2 behind none wrote.1,
