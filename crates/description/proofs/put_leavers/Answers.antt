@@ -1,5 +1,5 @@
 -- `put_leavers`: a turn writes one number and its separator behind the earlier ones.
-use Rattle.std.proofs.Common.{ℕ, ◌+◌, ◌*◌, ◌<◌, ◌≤◌, ◌≡◌, List, length, get_or, refl, subst, ◌∙◌, arith}
+use Rattle.std.proofs.Common.{ℕ, ◌+◌, ◌*◌, ◌<◌, ◌≤◌, ◌≡◌, List, length, get_or, refl, subst, arith}
 use Rattle.limits.specs.Limits.{most_words}
 use Rattle.text.specs.Text.{decimal}
 use Rattle.text.specs.inner.Writing.{Wrote}

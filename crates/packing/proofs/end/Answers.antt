@@ -3,58 +3,59 @@ use Rattle.std.proofs.Common.{ℕ, ◌≡◌, ◌+◌, ◌*◌, ◌-◌, ap, ◌
 use lib.Pow.{pow_pos}
 use Rattle.bits.specs.Bits.{put_field}
 use Rattle.bits.specs.inner.Writing.{whole_of}
-use Rattle.tables.specs.Format.{Shaped, line_at}
+use Rattle.tables.specs.Format.{line_at}
 use Rattle.tables.specs.Terms.{cycles}
-use Rattle.tables.specs.declared.Shape.{Shape}
-use Rattle.tables.proofs.Opens.{shape_same}
-use Rattle.packing.proofs.Parts.{Ending, ending, filling-put}
+use Rattle.tables.proofs.Shapes.{shape_fields}
+use Rattle.packing.proofs.Parts.{ending, filling-put}
 use Rattle.packing.proofs.end.Goals as goal
 
-end-known : {s : Shape} → Shaped s → Ending s
-end-known S = ending S.dims (shape_same S)
-
--- the writer stands at the last line's end
-stands : {s : Shape} → Shaped s → s.start + s.cycles * s.stride ≡ line_at s.words s.width (cycles s.words s.width)
-stands S = let E = end-known S in E.end ∙ E.last
-
 pub overflow_mul-end : goal.overflow_mul-end
-overflow_mul-end c = omega (arith, (end-known c.requires.shaped.0).offset)
+overflow_mul-end c = let E = ending (shape_fields c.shape.invariant c.shape.view_is) in omega (arith, E.offset)
 
 pub overflow_add-end : goal.overflow_add-end
-overflow_add-end c = let E = end-known c.requires.shaped.0 in omega (arith, E.end, E.few)
+overflow_add-end c =
+    let E = ending (shape_fields c.shape.invariant c.shape.view_is) in
+    omega (arith, E.end, E.few)
 
 pub overflow_mul-filling : goal.overflow_mul-filling
-overflow_mul-filling c = let E = end-known c.requires.shaped.0 in omega (arith, E.tight, E.few, c.file_length.ensures)
+overflow_mul-filling c =
+    let E = ending (shape_fields c.shape.invariant c.shape.view_is) in
+    omega (arith, E.tight, E.few, c.file_length.ensures)
 
 pub overflow_sub-filling : goal.overflow_sub-filling
-overflow_sub-filling c = let E = end-known c.requires.shaped.0 in omega (arith, E.end, E.reaches, c.file_length.ensures)
+overflow_sub-filling c =
+    let E = ending (shape_fields c.shape.invariant c.shape.view_is) in
+    omega (arith, E.end, E.reaches, c.file_length.ensures)
 
 pub write-window-requires-clause-width_bound : goal.write-window-requires-clause-width_bound
 write-window-requires-clause-width_bound c =
-    let E = end-known c.requires.shaped.0 in (omega (arith, E.end, E.tight, c.file_length.ensures), pow_pos _)
+    let E = ending (shape_fields c.shape.invariant c.shape.view_is) in
+    (omega (arith, E.end, E.tight, c.file_length.ensures), pow_pos _)
 
 pub write-window-requires-clause-fact : goal.write-window-requires-clause-fact
 write-window-requires-clause-fact c =
-    let S = c.requires.shaped.0 in
-    let E = end-known S in
-    (rw (stands S) c.requires.fact, omega (arith, E.end, E.reaches, c.file_length.ensures, c.requires.shaped.1))
+    let E = ending (shape_fields c.shape.invariant c.shape.view_is) in
+    (rw E.end c.requires.fact, omega (arith, E.end, E.reaches, c.file_length.ensures, c.requires.in_bounds))
 
 pub overflow_add-end-2 : goal.overflow_add-end-2
-overflow_add-end-2 c = let E = end-known c.requires.shaped.0 in omega (arith, E.end, E.reaches, E.tight, E.few, c.file_length.ensures)
+overflow_add-end-2 c =
+    let E = ending (shape_fields c.shape.invariant c.shape.view_is) in
+    omega (arith, E.end, E.reaches, E.tight, E.few, c.file_length.ensures)
 
 pub finish-requires : goal.finish-requires
 finish-requires c =
-    let E = end-known c.requires.shaped.0 in
-    (c.write-window.ensures.0, omega (arith, E.end, E.reaches, c.file_length.ensures, c.requires.shaped.1, c.write-window.auto.bytes))
+    let E = ending (shape_fields c.shape.invariant c.shape.view_is) in
+    (c.write-window.ensures.0,
+    omega (arith, E.end, E.reaches, c.file_length.ensures, c.requires.in_bounds, c.write-window.auto.bytes))
 
 pub returns : goal.returns
 returns c =
     let a = c.args in
     let shape = a.shape in
-    let S = c.requires.shaped.0 in
+    let E = ending (shape_fields c.shape.invariant c.shape.view_is) in
     let size = c.file_length.result in
-    let end = shape.start + shape.cycles * shape.stride in
+    let end = c.shape.inside.start + c.shape.inside.cycles * c.shape.inside.stride in
     c.finish.ensures
     ∙ filling-put (whole_of a.file.now (line_at shape.words shape.width (cycles shape.words shape.width)) a.held) _ size
-    (end-known S) c.file_length.ensures
-    (c.write-window.ensures.1 ∙ ap (λ (x : ℕ). put_field (whole_of a.file.now x a.held) end (8 * size - end) 0) (stands S))
+    E c.file_length.ensures
+    (c.write-window.ensures.1 ∙ ap (λ (x : ℕ). put_field (whole_of a.file.now x a.held) end (8 * size - end) 0) E.end)

@@ -1,5 +1,5 @@
 -- `generate`: where the tests pass, the first n images are lent and give the order for which a set is made.
-use Rattle.std.proofs.Common.{◌≡◌, sym, ◌∙◌, arith}
+use Rattle.std.proofs.Common.{sym, ◌∙◌, arith}
 use Rattle.std.proofs.lemmas.Result.{err_from_is_err_and}
 use lib.Seq.{length-take-le}
 use Rattle.images.proofs.Orders.{order-cut}

@@ -1,9 +1,8 @@
 -- `put_set`: what the functions of a line need of the state before it, and the state behind it.
-use Rattle.std.proofs.Common.{ℕ, ◌+◌, ◌*◌, ◌/◌, ◌^◌, ◌<◌, ◌≤◌, ◌≡◌, List, length, refl, sym, ap, ◌∙◌, arith, rules}
+use Rattle.std.proofs.Common.{ℕ, ◌+◌, ◌*◌, ◌/◌, ◌^◌, ◌<◌, ◌≤◌, ◌≡◌, List, length, sym, ap, ◌∙◌, arith, rules}
 use Rattle.laws.specs.Permutation.{Permutes}
 use Rattle.images.specs.Images.{order_of}
 use Rattle.bits.specs.inner.Writing.{whole_of}
-use Rattle.division.specs.Reciprocal.{Reciprocal}
 use Rattle.places.specs.Places.{Roomy}
 use Rattle.tables.specs.Header.{header_bits}
 use Rattle.tables.specs.Terms.{cycles, file_length}
@@ -89,7 +88,7 @@ take_line-requires-clause-ranked c =
     let S = c.requires.shaped.0 in
     let P = c.loop-t.invariant.putting in
     λ m. ranked-unread c.args.images.now _ (due S c.requires.shaped.1 c.requires.by_index.0.1 c.requires.words_in_bounds.0 c.loop-t-test.true P.scheduled)
-        (roomy S) (P.unread m) m
+    (roomy S) (P.unread m) m
 
 pub plan_line-requires-clause-w_nonzero : goal.plan_line-requires-clause-w_nonzero
 plan_line-requires-clause-w_nonzero c =

@@ -1,5 +1,5 @@
 -- `put_words`: turn k stores the word that bank k gets.
-use Rattle.std.proofs.Common.{◌≡◌, get_or, refl}
+use Rattle.std.proofs.Common.{get_or, refl}
 use Rattle.machine.specs.inner.Rows.{stored}
 use Rattle.machine.proofs.Takes.{stored_more}
 use Rattle.machine.proofs.rows.put_words.Goals as goal

@@ -1,5 +1,5 @@
 -- `enter`: turn b stores the word of port b.
-use Rattle.std.proofs.Common.{◌≡◌, refl}
+use Rattle.std.proofs.Common.{refl}
 use Rattle.tables.specs.Terms.{cycles}
 use Rattle.machine.specs.Step.{entering}
 use Rattle.machine.proofs.Indexes.{entering-more}

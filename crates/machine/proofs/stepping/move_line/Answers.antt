@@ -1,5 +1,4 @@
 -- `move_line`: with no frame held nothing is done; else the line is moved by its width, in bytes that read as the file.
-use Rattle.std.proofs.Common.{◌≡◌, arith}
 use Rattle.machine.proofs.Tests.{line_stays}
 use Rattle.machine.proofs.stepping.move_line.Goals as goal
 

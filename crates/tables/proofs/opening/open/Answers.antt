@@ -15,7 +15,7 @@ use Rattle.std.specs.Prelude.{Result, Ok, Err, ⊤}
 use Rattle.std.specs.Result.{is_err}
 use Rattle.std.proofs.lemmas.Bool.{false≢true}
 use Rattle.tables.proofs.LimitTests.{limits-kept, limited-dims, dims-passes}
-use Rattle.tables.proofs.Opens.{shape-own, shape-words, shape-width, dims-broken, dims-uneven, opened-cut, opened-said}
+use Rattle.tables.proofs.Opens.{dims-broken, dims-uneven, opened-cut, opened-said}
 use Rattle.tables.proofs.opening.open.Goals as goal
 
 -- ---- the header's numbers are the front, two inner parts and the end of one field
@@ -76,18 +76,13 @@ pub shape_of-requires : goal.shape_of-requires
 shape_of-requires c =
     limited-dims (limits-kept _ _ (kept _ _ _ c.test_limits.ensures c.is_err.ensures.value c.if-is_err.false)) c.if-words-width-ne0.false
 
-pub open_whole-requires : goal.open_whole-requires
-open_whole-requires c =
-    let L = limits-kept _ _ (kept _ _ _ c.test_limits.ensures c.is_err.ensures.value c.if-is_err.false) in
-    shape-own (limited-dims L c.if-words-width-ne0.false) c.shape_of.ensures
-
 pub returns : goal.returns
 returns c =
     let L = limits-kept _ _ (kept _ _ _ c.test_limits.ensures c.is_err.ensures.value c.if-is_err.false) in
     let D = limited-dims L c.if-words-width-ne0.false in
     let rest = said c.args.file.now c.header_of-header.ensures (omega (arith, c.if-file-lt-SHORT_BYTES.false)) c.needed_bytes.ensures
     c.if-file-needed_bytes.false c.words_of-words.ensures in
-    c.open_whole.ensures ∙ rw (shape-words D c.shape_of.ensures, shape-width D c.shape_of.ensures) (sym (rest ∙ dims-passes _ _ D))
+    c.open_whole.ensures ∙ rw c.shape_of.ensures (sym (rest ∙ dims-passes _ _ D))
 
 pub returns-then-is_err : goal.returns-then-is_err
 returns-then-is_err c =

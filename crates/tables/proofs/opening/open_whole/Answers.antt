@@ -1,32 +1,30 @@
 -- `opening::open_whole` meets its contract: each return stands at its place in the chain of tests. The last byte is filled by fewer than
 -- eight bits.
-use Rattle.std.proofs.Common.{ℕ, ◌≡◌, ◌+◌, ◌*◌, ◌-◌, List, length, refl, ap, ap₂, ◌∙◌, arith}
+use Rattle.std.proofs.Common.{ℕ, ◌≡◌, ◌+◌, ◌*◌, ◌-◌, List, length, refl, ap₂, ◌∙◌, arith}
 use Rattle.laws.proofs.Choices.{if_lt-yes, if_lt-no, if_eq-yes, if_eq-no}
 use Rattle.bits.specs.Bits.{field}
 use Rattle.tables.specs.Terms.{cycles, file_length}
-use Rattle.tables.specs.Format.{Shaped, line_at, filling, length_test}
-use Rattle.tables.specs.declared.Shape.{Shape}
-use Rattle.std.specs.Prelude.{Ok}
+use Rattle.tables.specs.Format.{line_at, filling, length_test}
+use Rattle.tables.specs.Shapes.{Size}
+use Rattle.tables.specs.declared.Shape.TheInside.{Inside}
 use Rattle.tables.proofs.Dims.{line_at-few, file_length-reaches, file_length-tight, file_length-header}
 use Rattle.tables.proofs.Header.{bytes-few}
 use Rattle.tables.proofs.Longest.{lines-longest, file_length-longest}
-use Rattle.tables.proofs.Opens.{shape_same, shape-total, shape-end}
+use Rattle.tables.proofs.Shapes.{Fields, shape_fields, shape-total, shape-end}
 use Rattle.tables.proofs.opening.open_whole.Goals as goal
 
--- the end of the lines, as the code works it out, and the bits behind it
-end-known : {s : Shape} → Shaped s → s.start + s.cycles * s.stride ≡ line_at s.words s.width (cycles s.words s.width)
-end-known S = shape-end S.dims (shape_same S)
-
-filling-known : {s : Shape} (file : List ℕ) {known last : ℕ} → Shaped s → known ≡ file_length s.words s.width → length file ≡ known
-    → last ≡ field file (8 * length file - (8 * known - (s.start + s.cycles * s.stride))) (8 * known - (s.start + s.cycles * s.stride))
-    → last ≡ filling s.words s.width file
+-- the bits behind the lines
+filling-known : {s : Inside} {z : Size} (file : List ℕ) {known last : ℕ} → Fields s z
+    → known ≡ file_length z.words z.width → length file ≡ known → last ≡ field file (8 * length file - (8 * known - (s.start + s.cycles * s.stride)))
+    (8 * known - (s.start + s.cycles * s.stride))
+    → last ≡ filling z.words z.width file
 unfolding filling
-filling-known {s} file {known} S e whole told =
+filling-known {s} {z} file {known} F e whole told =
     let end = s.start + s.cycles * s.stride in
-    let long : 8 * known - end ≡ 8 * file_length s.words s.width - line_at s.words s.width (cycles s.words s.width) =
-    omega (arith, end-known S) in
-    let at : 8 * length file - (8 * known - end) ≡ line_at s.words s.width (cycles s.words s.width) =
-    omega (arith, end-known S, file_length-reaches s.words s.width) in
+    let long : 8 * known - end ≡ 8 * file_length z.words z.width - line_at z.words z.width (cycles z.words z.width) =
+    omega (arith, shape-end F) in
+    let at : 8 * length file - (8 * known - end) ≡ line_at z.words z.width (cycles z.words z.width) =
+    omega (arith, shape-end F, file_length-reaches z.words z.width) in
     told ∙ ap₂ (λ (at long : ℕ). field file at long) at long
 
 pub returns-then-file-length : goal.returns-then-file-length
@@ -40,41 +38,50 @@ returns-then-length-file c =
     if_lt-no _ _ _ _ _ (rw long at c.if-file-length.false) (if_lt-yes _ _ _ _ _ (rw long at c.if-length-file.true) refl)
 
 pub overflow_mul-end : goal.overflow_mul-end
-overflow_mul-end c = omega (arith, lines-longest c.requires.dims, shape-total c.requires.dims (shape_same c.requires))
+overflow_mul-end c =
+    let F = shape_fields c.shape.invariant c.shape.view_is in
+    omega (arith, lines-longest F.dims, shape-total F)
 
 pub overflow_add-end : goal.overflow_add-end
 overflow_add-end c =
     let shape = c.args.shape in
-    omega (arith, end-known c.requires, line_at-few c.requires.dims (cycles shape.words shape.width) (omega arith))
+    let F = shape_fields c.shape.invariant c.shape.view_is in
+    omega (arith, shape-end F, line_at-few F.dims (cycles shape.words shape.width) (omega arith))
 
 pub overflow_mul-length : goal.overflow_mul-length
-overflow_mul-length c = omega (arith, c.file_length-length.ensures, file_length-longest c.requires.dims)
+overflow_mul-length c =
+    let F = shape_fields c.shape.invariant c.shape.view_is in
+    omega (arith, c.file_length-length.ensures, file_length-longest F.dims)
 
 pub overflow_sub-length : goal.overflow_sub-length
 overflow_sub-length c =
     let shape = c.args.shape in
-    omega (arith, end-known c.requires, c.file_length-length.ensures, file_length-reaches shape.words shape.width)
+    let F = shape_fields c.shape.invariant c.shape.view_is in
+    omega (arith, shape-end F, c.file_length-length.ensures, file_length-reaches shape.words shape.width)
 
 pub last_bits-requires : goal.last_bits-requires
 last_bits-requires c =
     let shape = c.args.shape in
+    let F = shape_fields c.shape.invariant c.shape.view_is in
     let long = c.file_length-length.ensures in (
       omega (arith, long, file_length-header shape.words shape.width, bytes-few shape.words),
-      omega (arith, end-known c.requires, long, file_length-tight shape.words shape.width),
+      omega (arith, shape-end F, long, file_length-tight shape.words shape.width),
     )
 
 pub returns : goal.returns
 unfolding length_test
 returns c =
     let long = c.file_length-length.ensures in
-    let filled = filling-known c.args.file.now c.requires long (omega arith) c.last_bits.ensures in
+    let F = shape_fields c.shape.invariant c.shape.view_is in
+    let filled = filling-known c.args.file.now F long (omega arith) c.last_bits.ensures in
     if_lt-no _ _ _ _ _ (rw long at c.if-file-length.false) (if_lt-no _ _ _ _ _ (rw long at c.if-length-file.false)
-    (if_eq-yes _ _ _ _ _ (rw filled at c.if-last_bits-ne0.false) (ap Ok (shape_same c.requires))))
+    (if_eq-yes _ _ _ _ _ (rw filled at c.if-last_bits-ne0.false) refl))
 
 pub returns-then-last_bits-ne0 : goal.returns-then-last_bits-ne0
 unfolding length_test
 returns-then-last_bits-ne0 c =
     let long = c.file_length-length.ensures in
-    let filled = filling-known c.args.file.now c.requires long (omega arith) c.last_bits.ensures in
+    let F = shape_fields c.shape.invariant c.shape.view_is in
+    let filled = filling-known c.args.file.now F long (omega arith) c.last_bits.ensures in
     if_lt-no _ _ _ _ _ (rw long at c.if-file-length.false) (if_lt-no _ _ _ _ _ (rw long at c.if-length-file.false)
     (if_eq-no _ _ _ _ _ (rw filled at c.if-last_bits-ne0.true) refl))

@@ -29,6 +29,6 @@ pub overflow_add-result-2 : goal.overflow_add-result-2
 overflow_add-result-2 c =
     omega (arith, parts-few c.requires c.log_up-addressing.ensures c.log_up-depth.ensures c.bit_count-switches.ensures)
 
-pub returns : goal.returns
-returns c =
+pub invariant_of-result : goal.invariant_of-result
+invariant_of-result c =
     shape-made c.requires c.log_up-addressing.ensures c.log_up-depth.ensures c.bit_count-switches.ensures c.header_bytes-header.ensures
