@@ -1,6 +1,6 @@
 -- The fields of a shape, by the n and w that contracts see of it.
 use Prim.Native.Nat.{ℕ, ◌+◌, ◌*◌, ◌/◌, ◌^◌}
-use mathlib.Core.Path.{◌≡◌, refl, sym, ap, ◌∙◌}
+use mathlib.Core.Path.{◌≡◌, refl, sym, ap}
 use native.Mathlib.Omega.{arith}
 use Rattle.tables.specs.Header.{header_bytes, header_bits}
 use Rattle.tables.specs.Terms.{Dims, cycles, address_bits, depth, switch_bits, line_bits, file_length}

@@ -18,14 +18,16 @@ pub put_front-front-requires : goal.put_front-front-requires
 put_front-front-requires c =
     let shape = c.args.shape in
     let F = shape_fields c.shape.invariant c.shape.view_is in
-    (omega arith, omega (arith, F.dims.narrow), omega arith, omega (arith, room shape.words shape.width _ c.requires, bytes-few shape.words))
+    (omega arith, omega (arith, F.dims.narrow), omega arith,
+    omega (arith, room shape.words shape.width _ c.requires, bytes-few shape.words))
 
 pub write-requires-clause-fact : goal.write-requires-clause-fact
 write-requires-clause-fact c =
     let F = shape_fields c.shape.invariant c.shape.view_is in
     let shape = c.args.shape in
     let fits = room shape.words shape.width _ c.requires in
-    (c.put_front-front.ensures.0, omega (arith, fits, bytes-long (rw F.words at c.if-shape-gt-SHORT_WORDS.true), c.put_front-front.auto.file))
+    let many = rw F.words at c.if-shape-gt-SHORT_WORDS.true in
+    (c.put_front-front.ensures.0, omega (arith, fits, bytes-long many, c.put_front-front.auto.file))
 
 pub returns-then-shape-gt-SHORT_WORDS : goal.returns-then-shape-gt-SHORT_WORDS
 returns-then-shape-gt-SHORT_WORDS c =
@@ -35,7 +37,8 @@ returns-then-shape-gt-SHORT_WORDS c =
     let end : 40 ≡ header_bits shape.words = omega (arith, bytes-long many) in
     let bytes : Bytes c.args.file.now = record { byte = λ i. search rules } in (
       subst (λ (x : ℕ). Open x c.write.result) end c.write.ensures.0,
-      long-put shape.width many bytes (omega (arith, room shape.words shape.width _ c.requires, bytes-long many)) (rw F.width at c.put_front-front.ensures.1)
+      long-put shape.width many bytes (omega (arith, room shape.words shape.width _ c.requires, bytes-long many))
+          (rw F.width at c.put_front-front.ensures.1)
           (ap (λ (x : ℕ). whole_of c.write.new.bytes x c.write.result) (sym end) ∙ rw F.words at c.write.ensures.1),
     )
 
@@ -58,5 +61,6 @@ returns c =
     let bytes : Bytes c.args.file.now = record { byte = λ i. search rules } in (
       subst (λ (x : ℕ). Open x c.put_front.result) end c.put_front.ensures.0,
       short-put shape.width few bytes (omega (arith, room shape.words shape.width _ c.requires, bytes-short few))
-          (ap (λ (x : ℕ). whole_of c.put_front.new.file x c.put_front.result) (sym end) ∙ rw (F.words, F.width) at c.put_front.ensures.1),
+          (ap (λ (x : ℕ). whole_of c.put_front.new.file x c.put_front.result) (sym end)
+          ∙ rw (F.words, F.width) at c.put_front.ensures.1),
     )

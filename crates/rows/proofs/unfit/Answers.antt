@@ -12,7 +12,8 @@ returns-then-shape-address c =
       λ q. false-true (sym q),
       λ addresses e H.
           let a = c.args in
-          let fault = fault-outside addresses a.marks.now a.shape.width _ a.b c.requires.0 (rw (e, ← F.cycles) c.if-shape-address.true) in
+          let fault = fault-outside addresses a.marks.now a.shape.width _ a.b c.requires.0
+          (rw (e, ← F.cycles) c.if-shape-address.true) in
           record { found = λ _. fault; none = λ q. false-true (sym q) },
     )
 
@@ -47,7 +48,9 @@ returns c =
     let below = rw F.cycles at c.if-shape-address.false in (
       λ _. below,
       λ addresses e H. rw F.width (record {
-        found = λ q. fault-marked addresses a.marks.now a.shape.width _ a.b c.requires.0 (rw e below) (rw e (eqb-false _ _ (not-true _ q)));
+        found = λ q.
+            fault-marked addresses a.marks.now a.shape.width _ a.b c.requires.0 (rw e below)
+            (rw e (eqb-false _ _ (not-true _ q)));
         none = λ q. sound_more addresses _ _ _ H c.requires.0 (rw e below) (rw e (eqb-true _ _ (not-false _ q)));
       }),
     )

@@ -8,7 +8,9 @@ use Rattle.rows.specs.inner.Rows.{ReadOn}
 use Rattle.rows.proofs.wide.read_group.Given as goal
 
 abbrev pub invariant-loop-j : goal.invariant-loop-j
-invariant-loop-j l = (l.j * address_bits l.shape.words l.shape.width + l.behind ≡ l.count * address_bits l.shape.words l.shape.width)
-    × ((file : List ℕ) (at : ℕ) → l.row ≡ field file (at + l.from * address_bits l.shape.words l.shape.width) (l.count * address_bits l.shape.words l.shape.width)
-    → ReadOn (row_at file at (address_bits l.shape.words l.shape.width)) l.places l.shape l.from l.initial.reads
-    → ReadOn (row_at file at (address_bits l.shape.words l.shape.width)) l.places l.shape (l.from + l.j) l.reads)
+invariant-loop-j l =
+    let size = address_bits l.shape.words l.shape.width in
+    (l.j * size + l.behind ≡ l.count * size)
+    × ((file : List ℕ) (at : ℕ) → l.row ≡ field file (at + l.from * size) (l.count * size)
+    → ReadOn (row_at file at size) l.places l.shape l.from l.initial.reads
+    → ReadOn (row_at file at size) l.places l.shape (l.from + l.j) l.reads)

@@ -20,7 +20,8 @@ next_field-taken-requires c =
     rw F.addressing (
       omega (arith, address_bits-few F.dims),
       r.0,
-      room-behind c.args.cursor (l.b * size) l.invariant.1 r.1 (group-fits shape.width l.b size (rw F.width at c.loop-b-test.true)),
+      room-behind c.args.cursor (l.b * size) l.invariant.1 r.1
+          (group-fits shape.width l.b size (rw F.width at c.loop-b-test.true)),
     )
 
 pub read_group-requires-clause-in_bounds : goal.read_group-requires-clause-in_bounds
@@ -47,7 +48,8 @@ read_group-requires-2-clause-in_bounds c =
     let F = shape_fields c.shape.invariant c.shape.view_is in
     let shape = c.args.shape in
     let l = c.loop-b in
-    let few = rest-few shape.width l.b (address_bits shape.words shape.width) (rw F.width at c.loop-b-test.false) (address_bits-few F.dims) in
+    let few = rest-few shape.width l.b (address_bits shape.words shape.width) (rw F.width at c.loop-b-test.false)
+    (address_bits-few F.dims) in
     rw F.width (omega (arith, l.invariant.0), omega (arith, few))
 
 pub returns : goal.returns
@@ -58,7 +60,9 @@ returns c =
     let shape = a.shape in
     let l = c.loop-b in
     let rest = (shape.width - l.b) * size in
-    let taken = field-behind a.cursor (l.b * size) l.invariant.1 a.file.now rest (rw (F.width, F.addressing) at c.next_field-last.ensures) in
+    let taken = field-behind a.cursor (l.b * size) l.invariant.1 a.file.now rest
+    (rw (F.width, F.addressing) at c.next_field-last.ensures) in
     let told = (rw F.width at c.read_group-2.ensures) a.file.now a.cursor.at taken.0 l.invariant.2 in
     let all : l.b + (shape.width - l.b) ≡ shape.width = omega (arith, l.invariant.0) in
-    (taken.1 ∙ ap (onward a.cursor) (rest-fits shape.width l.b size l.invariant.0), read_same all (told.none c.if-read_group-2.false))
+    (taken.1 ∙ ap (onward a.cursor) (rest-fits shape.width l.b size l.invariant.0),
+    read_same all (told.none c.if-read_group-2.false))

@@ -21,7 +21,8 @@ next_field-taken-requires c =
     rw F.addressing (
       omega (arith, address_bits-few F.dims),
       r.0,
-      room-behind c.args.cursor (l.k * size) l.invariant.1 r.1 (group-fits shape.width l.k size (rw F.width at c.loop-k-test.true)),
+      room-behind c.args.cursor (l.k * size) l.invariant.1 r.1
+          (group-fits shape.width l.k size (rw F.width at c.loop-k-test.true)),
     )
 
 pub write_group-requires-clause-in_bounds : goal.write_group-requires-clause-in_bounds
@@ -35,7 +36,8 @@ returns-then-write_group c addresses S =
     let size = address_bits c.args.shape.words c.args.shape.width in
     let a = c.args in
     let l = c.loop-k in
-    let taken = field-behind a.cursor (l.k * size) l.invariant.1 a.file.now (4 * size) (rw F.addressing at c.next_field-taken.ensures) in
+    let taken = field-behind a.cursor (l.k * size) l.invariant.1 a.file.now (4 * size)
+    (rw F.addressing at c.next_field-taken.ensures) in
     let told = c.write_group.ensures a.file.now a.cursor.at addresses a.places.now a.words.now taken.0 S (l.invariant.2 addresses S) in
     told.found c.if-write_group.true
 
@@ -45,7 +47,8 @@ loop-k-preserved c =
     let size = address_bits c.args.shape.words c.args.shape.width in
     let a = c.args in
     let l = c.loop-k in
-    let taken = field-behind a.cursor (l.k * size) l.invariant.1 a.file.now (4 * size) (rw F.addressing at c.next_field-taken.ensures) in (
+    let taken = field-behind a.cursor (l.k * size) l.invariant.1 a.file.now (4 * size)
+    (rw F.addressing at c.next_field-taken.ensures) in (
       (rw F.width at c.loop-k-test.true),
       taken.1 ∙ ap (onward a.cursor) (sym (add-mul l.k 4 size)),
       λ addresses S.
@@ -81,7 +84,8 @@ write_group-requires-2-clause-in_bounds c =
     let F = shape_fields c.shape.invariant c.shape.view_is in
     let shape = c.args.shape in
     let l = c.loop-k in
-    let few = rest-few shape.width l.k (address_bits shape.words shape.width) (rw F.width at c.loop-k-test.false) (address_bits-few F.dims) in
+    let few = rest-few shape.width l.k (address_bits shape.words shape.width) (rw F.width at c.loop-k-test.false)
+    (address_bits-few F.dims) in
     rw F.width (omega (arith, l.invariant.0), omega (arith, few))
 
 pub returns-then-write_group-2 : goal.returns-then-write_group-2
@@ -90,8 +94,10 @@ returns-then-write_group-2 c addresses S =
     let size = address_bits c.args.shape.words c.args.shape.width in
     let a = c.args in
     let l = c.loop-k in
-    let taken = field-behind a.cursor (l.k * size) l.invariant.1 a.file.now ((a.shape.width - l.k) * size) (rw (F.width, F.addressing) at c.next_field-last.ensures) in
-    let told = (rw F.width at c.write_group-2.ensures) a.file.now a.cursor.at addresses a.places.now a.words.now taken.0 S (l.invariant.2 addresses S) in
+    let taken = field-behind a.cursor (l.k * size) l.invariant.1 a.file.now ((a.shape.width - l.k) * size)
+    (rw (F.width, F.addressing) at c.next_field-last.ensures) in
+    let told = (rw F.width at c.write_group-2.ensures) a.file.now a.cursor.at addresses a.places.now a.words.now taken.0 S
+    (l.invariant.2 addresses S) in
     told.found c.if-write_group-2.true
 
 pub returns : goal.returns
@@ -100,7 +106,9 @@ returns c addresses S =
     let size = address_bits c.args.shape.words c.args.shape.width in
     let a = c.args in
     let l = c.loop-k in
-    let taken = field-behind a.cursor (l.k * size) l.invariant.1 a.file.now ((a.shape.width - l.k) * size) (rw (F.width, F.addressing) at c.next_field-last.ensures) in
-    let told = (rw F.width at c.write_group-2.ensures) a.file.now a.cursor.at addresses a.places.now a.words.now taken.0 S (l.invariant.2 addresses S) in
+    let taken = field-behind a.cursor (l.k * size) l.invariant.1 a.file.now ((a.shape.width - l.k) * size)
+    (rw (F.width, F.addressing) at c.next_field-last.ensures) in
+    let told = (rw F.width at c.write_group-2.ensures) a.file.now a.cursor.at addresses a.places.now a.words.now taken.0 S
+    (l.invariant.2 addresses S) in
     let all : l.k + (a.shape.width - l.k) ≡ a.shape.width = omega (arith, l.invariant.0) in
     (taken.1 ∙ ap (onward a.cursor) (rest-fits a.shape.width l.k size l.invariant.0), write_same all (told.none c.if-write_group-2.false))

@@ -8,9 +8,11 @@ use Rattle.rows.specs.inner.Rows.{Sending, WriteOn}
 use Rattle.rows.proofs.wide.write_group.Given as goal
 
 abbrev pub invariant-loop-j : goal.invariant-loop-j
-invariant-loop-j l = (l.j * address_bits l.shape.words l.shape.width + l.behind ≡ l.count * address_bits l.shape.words l.shape.width)
+invariant-loop-j l =
+    let size = address_bits l.shape.words l.shape.width in
+    (l.j * size + l.behind ≡ l.count * size)
     × ((file : List ℕ) (at : ℕ) (addresses places₀ words₀ : List ℕ)
-    → l.row ≡ field file (at + l.from * address_bits l.shape.words l.shape.width) (l.count * address_bits l.shape.words l.shape.width)
+    → l.row ≡ field file (at + l.from * size) (l.count * size)
     → Sending addresses l.sources l.reads l.shape.words l.shape.width
-    → WriteOn addresses l.sources (row_at file at (address_bits l.shape.words l.shape.width)) l.shape places₀ words₀ l.from l.initial.places l.initial.words
-    → WriteOn addresses l.sources (row_at file at (address_bits l.shape.words l.shape.width)) l.shape places₀ words₀ (l.from + l.j) l.places l.words)
+    → WriteOn addresses l.sources (row_at file at size) l.shape places₀ words₀ l.from l.initial.places l.initial.words
+    → WriteOn addresses l.sources (row_at file at size) l.shape places₀ words₀ (l.from + l.j) l.places l.words)

@@ -10,7 +10,8 @@ pub returns-then-shape-target : goal.returns-then-shape-target
 returns-then-shape-target c addresses writes places₀ words₀ S e W =
     let a = c.args in
     let F = shape_fields c.shape.invariant c.shape.view_is in
-    let fault = fault-outside writes words₀ a.shape.width _ a.k c.requires.in_bounds.0 (rw (e, ← F.cycles) c.if-shape-target.true) in
+    let fault = fault-outside writes words₀ a.shape.width _ a.k c.requires.in_bounds.0
+    (rw (e, ← F.cycles) c.if-shape-target.true) in
     record { found = λ _. fault; none = λ q. false-true (sym q) }
 
 pub overflow_mul-place : goal.overflow_mul-place

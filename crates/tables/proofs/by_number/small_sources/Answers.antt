@@ -10,17 +10,17 @@ use Rattle.tables.proofs.by_number.small_sources.Goals as goal
 pub sources_by_number-requires : goal.sources_by_number-requires
 sources_by_number-requires c =
     let F = shape_fields c.shape.invariant c.shape.view_is in
-    (c.requires.0, room-less c.requires.1 (omega (arith, number-bits 3 c.args.shape.width eight-count (sym F.lines ∙ c.in-8.is))))
+    (c.requires.0, room-less c.requires.1 (omega (arith, number-bits 3 _ eight-count (sym F.lines ∙ c.in-8.is))))
 
 pub sources_by_number-requires-in-16 : goal.sources_by_number-requires-in-16
 sources_by_number-requires-in-16 c =
     let F = shape_fields c.shape.invariant c.shape.view_is in
-    (c.requires.0, room-less c.requires.1 (omega (arith, number-bits 4 c.args.shape.width sixteen-count (sym F.lines ∙ c.in-16.is))))
+    (c.requires.0, room-less c.requires.1 (omega (arith, number-bits 4 _ sixteen-count (sym F.lines ∙ c.in-16.is))))
 
 pub sources_by_number-requires-in-4 : goal.sources_by_number-requires-in-4
 sources_by_number-requires-in-4 c =
     let F = shape_fields c.shape.invariant c.shape.view_is in
-    (c.requires.0, room-less c.requires.1 (omega (arith, number-bits 2 c.args.shape.width four-count (sym F.lines ∙ c.in-4.is))))
+    (c.requires.0, room-less c.requires.1 (omega (arith, number-bits 2 _ four-count (sym F.lines ∙ c.in-4.is))))
 
 pub returns-in-8 : goal.returns-in-8
 returns-in-8 c =

@@ -1,13 +1,12 @@
 -- `opening::open_whole` meets its contract: each return stands at its place in the chain of tests. The last byte is filled by fewer than
 -- eight bits.
-use Rattle.std.proofs.Common.{ℕ, ◌≡◌, ◌+◌, ◌*◌, ◌-◌, List, length, refl, ap, ap₂, ◌∙◌, arith}
+use Rattle.std.proofs.Common.{ℕ, ◌≡◌, ◌+◌, ◌*◌, ◌-◌, List, length, refl, ap₂, ◌∙◌, arith}
 use Rattle.laws.proofs.Choices.{if_lt-yes, if_lt-no, if_eq-yes, if_eq-no}
 use Rattle.bits.specs.Bits.{field}
 use Rattle.tables.specs.Terms.{cycles, file_length}
 use Rattle.tables.specs.Format.{line_at, filling, length_test}
 use Rattle.tables.specs.Shapes.{Size}
 use Rattle.tables.specs.declared.Shape.TheInside.{Inside}
-use Rattle.std.specs.Prelude.{Ok}
 use Rattle.tables.proofs.Dims.{line_at-few, file_length-reaches, file_length-tight, file_length-header}
 use Rattle.tables.proofs.Header.{bytes-few}
 use Rattle.tables.proofs.Longest.{lines-longest, file_length-longest}
@@ -15,8 +14,9 @@ use Rattle.tables.proofs.Shapes.{Fields, shape_fields, shape-total, shape-end}
 use Rattle.tables.proofs.opening.open_whole.Goals as goal
 
 -- the bits behind the lines
-filling-known : {s : Inside} {z : Size} (file : List ℕ) {known last : ℕ} → Fields s z → known ≡ file_length z.words z.width → length file ≡ known
-    → last ≡ field file (8 * length file - (8 * known - (s.start + s.cycles * s.stride))) (8 * known - (s.start + s.cycles * s.stride))
+filling-known : {s : Inside} {z : Size} (file : List ℕ) {known last : ℕ} → Fields s z
+    → known ≡ file_length z.words z.width → length file ≡ known → last ≡ field file (8 * length file - (8 * known - (s.start + s.cycles * s.stride)))
+    (8 * known - (s.start + s.cycles * s.stride))
     → last ≡ filling z.words z.width file
 unfolding filling
 filling-known {s} {z} file {known} F e whole told =
@@ -72,7 +72,8 @@ pub returns : goal.returns
 unfolding length_test
 returns c =
     let long = c.file_length-length.ensures in
-    let filled = filling-known c.args.file.now (shape_fields c.shape.invariant c.shape.view_is) long (omega arith) c.last_bits.ensures in
+    let F = shape_fields c.shape.invariant c.shape.view_is in
+    let filled = filling-known c.args.file.now F long (omega arith) c.last_bits.ensures in
     if_lt-no _ _ _ _ _ (rw long at c.if-file-length.false) (if_lt-no _ _ _ _ _ (rw long at c.if-length-file.false)
     (if_eq-yes _ _ _ _ _ (rw filled at c.if-last_bits-ne0.false) refl))
 
@@ -80,6 +81,7 @@ pub returns-then-last_bits-ne0 : goal.returns-then-last_bits-ne0
 unfolding length_test
 returns-then-last_bits-ne0 c =
     let long = c.file_length-length.ensures in
-    let filled = filling-known c.args.file.now (shape_fields c.shape.invariant c.shape.view_is) long (omega arith) c.last_bits.ensures in
+    let F = shape_fields c.shape.invariant c.shape.view_is in
+    let filled = filling-known c.args.file.now F long (omega arith) c.last_bits.ensures in
     if_lt-no _ _ _ _ _ (rw long at c.if-file-length.false) (if_lt-no _ _ _ _ _ (rw long at c.if-length-file.false)
     (if_eq-no _ _ _ _ _ (rw filled at c.if-last_bits-ne0.true) refl))
