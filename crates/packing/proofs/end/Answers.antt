@@ -1,5 +1,5 @@
 -- `end` meets its contract: the filling starts behind the last line, and ends with the file.
-use Rattle.std.proofs.Common.{ℕ, ◌≡◌, ◌+◌, ◌*◌, ◌-◌, ap, ◌∙◌, arith}
+use Rattle.std.proofs.Common.{ℕ, ◌+◌, ◌*◌, ◌-◌, ap, ◌∙◌, arith}
 use lib.Pow.{pow_pos}
 use Rattle.bits.specs.Bits.{put_field}
 use Rattle.bits.specs.inner.Writing.{whole_of}
