@@ -1,6 +1,6 @@
 -- The line of a set of any width, as a step takes it. The cursor is carried on from the read addresses to the switch bits and to the write addresses. What is
 -- found there are the definition's tests, in its order, and the words of a line that passes them move.
-use Prim.Native.Nat.{ℕ, ◌+◌, ◌*◌, ◌-◌, ◌≤◌}
+use Prim.Native.Nat.{ℕ, ◌+◌, ◌*◌, ◌-◌, ◌^◌, ◌≤◌}
 use mathlib.Core.Path.{◌≡◌, subst, sym, ap, ◌∙◌}
 use mathlib.Core.Bool.{true, false}
 use mathlib.Core.List.{List}
@@ -11,24 +11,23 @@ use Rattle.refusal.specs.declared.Refusal.TheVariants.{ReadAddress, SpareLine, W
 use Rattle.bits.specs.Reading.{onward}
 use Rattle.bits.specs.inner.Taking.{Room, WithZeros}
 use Rattle.bits.specs.declared.reader.Cursor.{Cursor}
-use Rattle.tables.specs.Terms.{cycles, line_bits}
-use Rattle.tables.specs.Format.{Shaped, cursor_at, line_at}
+use Rattle.tables.specs.Terms.{Dims, cycles, depth, address_bits, switch_bits, line_bits}
+use Rattle.tables.specs.Format.{cursor_at, line_at}
 use Rattle.tables.specs.Datapath.{carry_strays}
-use Rattle.tables.specs.inner.Lines.{row_at, Sends, spare_used}
+use Rattle.tables.specs.inner.Lines.{Sends, spare_used}
 use Rattle.tables.specs.declared.Pass.{Pass}
 use Rattle.tables.specs.declared.Shape.{Shape}
 use Rattle.tables.proofs.Cursors.{line-room, room-less, room-behind, carried_on}
 use Rattle.tables.proofs.Held.{reads_of, writes_of, read-row, write-row, crossings-held, line-held, spare-held}
 use Rattle.tables.proofs.Lined.{Line}
-use Rattle.tables.proofs.Opens.{shape_same}
-use Rattle.tables.proofs.Passes.{Fitting, line-fits}
+use Rattle.tables.proofs.Passes.{line-parts}
 use Rattle.clock.specs.declared.Clock.{Clock}
 use Rattle.machine.specs.inner.Ready.{InRange, line_outcome, move_of}
-use Rattle.machine.specs.inner.Rows.{spot_in, word_in, Outside, Taken, Sent, stored}
+use Rattle.machine.specs.inner.Rows.{row_of, spot_in, word_in, Outside, Taken, Sent, stored}
 use Rattle.machine.proofs.Taking.{reads-out, reads_in, writes-out, writes-in, words-sent, words-put}
 use Rattle.machine.proofs.Tests.{read-refused, carry-refused, write-refused, line-moves}
 
-module _ {shape : Shape} (S : Shaped shape) {clock : Clock} (G : InRange (cycles shape.words shape.width) clock) {cursor : Cursor}
+module _ {shape : Shape} (D : Dims shape.words shape.width) {clock : Clock} (G : InRange (cycles shape.words shape.width) clock) {cursor : Cursor}
     (begun : cursor ≡ cursor_at shape.words shape.width clock.cycle) where
   abbrev n : ℕ
   n = shape.words
@@ -41,10 +40,11 @@ module _ {shape : Shape} (S : Shaped shape) {clock : Clock} (G : InRange (cycles
 
   -- the bits of a row of addresses
   abbrev row : ℕ
-  row = shape.width * shape.addressing
+  row = w * address_bits n w
 
-  fits : Fitting shape
-  fits = line-fits S.dims (shape_same S)
+  -- the bits of its network
+  abbrev switches : ℕ
+  switches = switch_bits w
 
   -- ---- the cursor begins at the step's own line, with room for it
 
@@ -54,66 +54,66 @@ module _ {shape : Shape} (S : Shaped shape) {clock : Clock} (G : InRange (cycles
   room : Room cursor (line_bits n w)
   room =
       let none : cursor.handed ≡ 0 = ap (λ (x : Cursor). x.handed) begun in
-      line-room S.dims t G.cycle at-line (omega (arith, none))
+      line-room D t G.cycle at-line (omega (arith, none))
 
   pub reads-room : Room cursor row
-  reads-room = room-less room (omega (arith, fits.all))
+  reads-room = room-less room (omega (arith, line-parts n w))
 
   module _ {next : Cursor} (e : next ≡ onward cursor row) where
-    pub switches-room : Room next shape.switches
-    switches-room = room-behind cursor row e room (omega (arith, fits.all))
+    pub switches-room : Room next switches
+    switches-room = room-behind cursor row e room (omega (arith, line-parts n w))
 
-    pub writes-room : {behind : Cursor} → behind ≡ onward next shape.switches → Room behind row
+    pub writes-room : {behind : Cursor} → behind ≡ onward next switches → Room behind row
     writes-room f =
-        room-behind cursor (row + shape.switches) (carried_on cursor row e shape.switches f) room (omega (arith, fits.all))
+        room-behind cursor (row + switches) (carried_on cursor row e switches f) room (omega (arith, line-parts n w))
 
   -- ---- what is found, of every file that the bytes read as
 
   module _ (some : 1 ≤ clock.fill) {file bytes : List ℕ} (Z : WithZeros file bytes) (first second : List ℕ) where
-    pub reads-fail : Outside (row_at bytes cursor.at shape.addressing) shape
+    pub reads-fail : Outside (row_of shape bytes cursor.at) shape
         → line_outcome (Err (ReadAddress t)) second ≡ move_of n w file clock first second
     reads-fail O =
         read-refused n w file clock first second some
-        (reads-out S file t (subst (λ (x : List ℕ). Outside x shape) (read-row shape cursor t S Z at-line) O))
+        (reads-out shape D file t (subst (λ (x : List ℕ). Outside x shape) (read-row cursor t D Z at-line) O))
 
     module _ {next : Cursor} {got sources : List ℕ} {pass : Pass} (e : next ≡ onward cursor row)
-        (R : Taken (word_in shape first (1 - clock.half)) (row_at bytes cursor.at shape.addressing) shape w got)
+        (R : Taken (word_in shape first (1 - clock.half)) (row_of shape bytes cursor.at) shape w got)
         (N : Sends shape bytes next pass sources) where
       reads : Taken (word_in shape first (1 - clock.half)) (reads_of n w file t) shape w got
       reads =
-          subst (λ (x : List ℕ). Taken (word_in shape first (1 - clock.half)) x shape w got) (read-row shape cursor t S Z at-line) R
+          subst (λ (x : List ℕ). Taken (word_in shape first (1 - clock.half)) x shape w got) (read-row cursor t D Z at-line) R
 
       line : Line n w file t (reads_of n w file t) sources (writes_of n w file t)
-      line = line-held shape cursor t S Z at-line e N.2
+      line = line-held cursor t D Z at-line e N.2
 
-      spare : spare_used sources w shape.lines ≡ carry_strays n w file t
-      spare = spare-held shape cursor t S Z at-line e N.2
+      spare : spare_used sources w (2 ^ depth w) ≡ carry_strays n w file t
+      spare = spare-held cursor t D Z at-line e N.2
 
-      pub spare-fails : spare_used sources w shape.lines ≡ true
+      pub spare-fails : spare_used sources w (2 ^ depth w) ≡ true
           → line_outcome (Err (SpareLine t)) second ≡ move_of n w file clock first second
-      spare-fails u = carry-refused n w file clock first second some (reads_in S file t reads) (sym spare ∙ u)
+      spare-fails u = carry-refused n w file clock first second some (reads_in shape D file t reads) (sym spare ∙ u)
 
-      module _ (u : spare_used sources w shape.lines ≡ false) where
-        behind : pass.cursor ≡ onward cursor (row + shape.switches)
-        behind = carried_on cursor row e shape.switches N.0
+      module _ (u : spare_used sources w (2 ^ depth w) ≡ false) where
+        behind : pass.cursor ≡ onward cursor (row + switches)
+        behind = carried_on cursor row e switches N.0
 
-        pub writes-fail : Outside (row_at bytes pass.cursor.at shape.addressing) shape
+        pub writes-fail : Outside (row_of shape bytes pass.cursor.at) shape
             → line_outcome (Err (WriteAddress t)) second ≡ move_of n w file clock first second
         writes-fail O =
-            write-refused n w file clock first second some (reads_in S file t reads) (sym spare ∙ u)
-            (writes-out S file t (subst (λ (x : List ℕ). Outside x shape) (write-row shape cursor t S Z at-line behind) O))
+            write-refused n w file clock first second some (reads_in shape D file t reads) (sym spare ∙ u)
+            (writes-out shape D file t (subst (λ (x : List ℕ). Outside x shape) (write-row cursor t D Z at-line behind) O))
 
-        module _ {to : List ℕ} (W : Taken (spot_in shape clock.half) (row_at bytes pass.cursor.at shape.addressing) shape w to) where
+        module _ {to : List ℕ} (W : Taken (spot_in shape clock.half) (row_of shape bytes pass.cursor.at) shape w to) where
           writes : Taken (spot_in shape clock.half) (writes_of n w file t) shape w to
           writes =
-              subst (λ (x : List ℕ). Taken (spot_in shape clock.half) x shape w to) (write-row shape cursor t S Z at-line behind) W
+              subst (λ (x : List ℕ). Taken (spot_in shape clock.half) x shape w to) (write-row cursor t D Z at-line behind) W
 
           pub line-sent : 2 * n ≤ length second → Sent shape got sources to second
-          line-sent long = words-sent S file clock G.half first line (sym spare ∙ u) reads writes second long
+          line-sent long = words-sent shape D file clock G.half first line (sym spare ∙ u) reads writes second long
 
           pub line-put : {moved : List ℕ} → moved ≡ stored (λ k. get_or to k 0) (λ k. get_or got (get_or sources k 0) 0) w second
               → line_outcome (Ok pass.crossed) moved ≡ move_of n w file clock first second
           line-put put =
-              line-moves n w file clock first second some (reads_in S file t reads) (sym spare ∙ u) (writes-in S file t writes)
-              (crossings-held shape cursor t S Z at-line e N.1)
-              (put ∙ words-put S file clock G.half first line (sym spare ∙ u) reads writes second)
+              line-moves n w file clock first second some (reads_in shape D file t reads) (sym spare ∙ u) (writes-in shape D file t writes)
+              (crossings-held cursor t D Z at-line e N.1)
+              (put ∙ words-put shape D file clock G.half first line (sym spare ∙ u) reads writes second)

@@ -10,7 +10,6 @@ use Rattle.refusal.specs.declared.Refusal.{Refusal}
 use Rattle.tables.specs.Format.{open_of, shape_of}
 use Rattle.tables.specs.declared.Shape.{Shape}
 use Rattle.tables.proofs.Form.{opened-shape}
-use Rattle.tables.proofs.Opens.{shape-words}
 use Rattle.reading.specs.Reading.{read_outcome, read_lines}
 use Rattle.reading.specs.declared.Contents.{Contents}
 use Rattle.reading.proofs.Exact.{read-shaped}
@@ -26,13 +25,10 @@ told : (file words : List ℕ) {shape : Shape} {r : Result Contents Refusal} →
     → get_or words j 0 ≡ inverse contents.words (λ i. get_or after i 0) j))
     → ReadLeavers file r words
 told file words opened reads =
-    let few = (opened-shape _ _ opened).dims.few in
+    let few = (opened-shape _ _ opened).few in
     let read = reads (replicate most_words 0) (replicate (2 * most_words) 0) (omega (arith, few, length-replicate {A = ℕ} most_words 0))
     (omega (arith, few, length-replicate {A = ℕ} (2 * most_words) 0)) in
     (read.0, read.1 ∙ sym (read-shaped _ _ _ _ opened), read.2)
-
-pub read_leavers-requires : goal.read_leavers-requires
-read_leavers-requires c = (opened-shape _ _ c.requires.file_value.0, c.requires.unmarked.0, c.requires.unmarked.1)
 
 pub put_refusal-requires : goal.put_refusal-requires
 put_refusal-requires c = (rw c.number.ensures (number_short c.in-Err.refusal), c.requires.file_value.1)
@@ -42,7 +38,7 @@ enough : {file words : List ℕ} {shape : Shape} {contents : Contents} → open_
     → shape.words ≤ length words → contents.words ≤ length words
 enough {shape = shape} {contents} opened A long =
     let same : shape ≡ shape_of contents.words contents.width = cc (sym opened ∙ A.opened) in
-    omega (arith, shape-words A.dims same)
+    rw same at long
 
 pub slice_bounds-put_set-end : goal.slice_bounds-put_set-end
 slice_bounds-put_set-end c =

@@ -3,86 +3,57 @@ use Rattle.std.proofs.Common.{ℕ, ◌+◌, ◌*◌, ◌-◌, ◌≡◌, sym, ap
 use native.Mathlib.Nat.{add-mul, zero-mul}
 use Rattle.bits.specs.Reading.{onward}
 use Rattle.bits.proofs.OnePass.{onward-none}
+use Rattle.tables.specs.Terms.{address_bits}
 use Rattle.tables.proofs.Cursors.{room-behind, field-behind}
+use Rattle.tables.proofs.Dims.{address_bits-few}
 use Rattle.tables.proofs.Groups.{group-fits, rest-fits, rest-few}
-use Rattle.tables.proofs.Narrow.{size_few}
+use Rattle.tables.proofs.Shapes.{shape_fields}
 use Rattle.machine.proofs.Taking.{taken_none, taken-same}
 use Rattle.machine.proofs.rows.aim.Goals as goal
 
-pub loop-k-init : goal.loop-k-init
-loop-k-init c = record {
-  within = omega arith;
-  behind = sym (onward-none c.args.cursor) ∙ ap (onward c.args.cursor) (sym (zero-mul c.args.shape.addressing));
-  taken = taken_none c.told-to;
-}
-
 pub next_field-taken-requires : goal.next_field-taken-requires
-next_field-taken-requires c = (
-  omega (arith, size_few c.requires.shaped.0),
-  c.requires.shaped.1,
-  room-behind c.args.cursor (c.loop-k.k * c.args.shape.addressing) c.loop-k.invariant.behind c.requires.shaped.2
-      (group-fits c.args.shape.width c.loop-k.k c.args.shape.addressing c.loop-k-test.true),
-)
-
-pub aim_group-requires-clause-shaped : goal.aim_group-requires-clause-shaped
-aim_group-requires-clause-shaped c = (c.requires.shaped.0, c.loop-k-test.true, omega (arith, size_few c.requires.shaped.0))
-
-pub returns-then-aim_group : goal.returns-then-aim_group
-returns-then-aim_group c =
-    let taken = field-behind c.args.cursor (c.loop-k.k * c.args.shape.addressing) c.loop-k.invariant.behind c.args.file.now (4 * c.args.shape.addressing)
-    c.next_field-taken.ensures in
-    (c.aim_group.ensures c.args.file.now c.args.cursor.at taken.0 c.loop-k.invariant.taken).found c.if-aim_group.true
-
-pub loop-k-preserved : goal.loop-k-preserved
-loop-k-preserved c =
-    let size = c.args.shape.addressing in
-    let taken = field-behind c.args.cursor (c.loop-k.k * size) c.loop-k.invariant.behind c.args.file.now (4 * size) c.next_field-taken.ensures in
-    record {
-      within = c.loop-k-test.true;
-      behind = taken.1 ∙ ap (onward c.args.cursor) (sym (add-mul c.loop-k.k 4 size));
-      taken = (c.aim_group.ensures c.args.file.now c.args.cursor.at taken.0 c.loop-k.invariant.taken).none c.if-aim_group.false;
-    }
-
-pub returns-then-rest-eq0 : goal.returns-then-rest-eq0
-returns-then-rest-eq0 c =
-    let all : c.loop-k.k ≡ c.args.shape.width = omega (arith, c.loop-k.invariant.within, c.if-rest-eq0.true) in (
-      c.loop-k.invariant.behind ∙ ap (λ (k : ℕ). onward c.args.cursor (k * c.args.shape.addressing)) all,
-      taken-same all c.loop-k.invariant.taken,
+next_field-taken-requires c =
+    let F = shape_fields c.shape.invariant c.shape.view_is in
+    let size = address_bits c.args.shape.words c.args.shape.width in
+    rw F.addressing (
+      omega (arith, address_bits-few F.dims),
+      c.requires.in_file.0,
+      room-behind c.args.cursor (c.loop-k.k * size) c.loop-k.invariant.behind c.requires.in_file.1
+          (group-fits c.args.shape.width c.loop-k.k size (rw F.width at c.loop-k-test.true)),
     )
 
-pub overflow_mul-rest : goal.overflow_mul-rest
-overflow_mul-rest c =
-    record { fits = omega (arith, rest-few c.args.shape.width c.loop-k.k c.args.shape.addressing c.loop-k-test.false (size_few c.requires.shaped.0)) }
+pub aim_group-requires-clause-in_field : goal.aim_group-requires-clause-in_field
+aim_group-requires-clause-in_field c =
+    let F = shape_fields c.shape.invariant c.shape.view_is in
+    (rw F.width at c.loop-k-test.true, omega (arith, address_bits-few F.dims))
 
 pub next_field-last-requires : goal.next_field-last-requires
 next_field-last-requires c =
-    let size = c.args.shape.addressing in (
-      omega (arith, rest-few c.args.shape.width c.loop-k.k size c.loop-k-test.false (size_few c.requires.shaped.0)),
-      c.requires.shaped.1,
-      room-behind c.args.cursor (c.loop-k.k * size) c.loop-k.invariant.behind c.requires.shaped.2
+    let F = shape_fields c.shape.invariant c.shape.view_is in
+    let size = address_bits c.args.shape.words c.args.shape.width in
+    rw (F.width, F.addressing) (
+      omega (arith, rest-few c.args.shape.width c.loop-k.k size (rw F.width at c.loop-k-test.false) (address_bits-few F.dims)),
+      c.requires.in_file.0,
+      room-behind c.args.cursor (c.loop-k.k * size) c.loop-k.invariant.behind c.requires.in_file.1
           (omega (arith, rest-fits c.args.shape.width c.loop-k.k size c.loop-k.invariant.within)),
     )
 
-pub aim_group-requires-2-clause-shaped : goal.aim_group-requires-2-clause-shaped
-aim_group-requires-2-clause-shaped c = (
-  c.requires.shaped.0,
-  omega (arith, c.loop-k.invariant.within),
-  omega (arith, rest-few c.args.shape.width c.loop-k.k c.args.shape.addressing c.loop-k-test.false (size_few c.requires.shaped.0)),
-)
-
-pub returns-then-aim_group-2 : goal.returns-then-aim_group-2
-returns-then-aim_group-2 c =
-    let size = c.args.shape.addressing in
-    let taken = field-behind c.args.cursor (c.loop-k.k * size) c.loop-k.invariant.behind c.args.file.now ((c.args.shape.width - c.loop-k.k) * size)
-    c.next_field-last.ensures in
-    (c.aim_group-2.ensures c.args.file.now c.args.cursor.at taken.0 c.loop-k.invariant.taken).found c.if-aim_group-2.true
+pub aim_group-requires-2-clause-in_field : goal.aim_group-requires-2-clause-in_field
+aim_group-requires-2-clause-in_field c =
+    let F = shape_fields c.shape.invariant c.shape.view_is in
+    rw F.width (
+      omega (arith, c.loop-k.invariant.within),
+      omega (arith, rest-few c.args.shape.width c.loop-k.k _ (rw F.width at c.loop-k-test.false) (address_bits-few F.dims)),
+    )
 
 pub returns : goal.returns
 returns c =
-    let size = c.args.shape.addressing in
+    let F = shape_fields c.shape.invariant c.shape.view_is in
     let w = c.args.shape.width in
-    let taken = field-behind c.args.cursor (c.loop-k.k * size) c.loop-k.invariant.behind c.args.file.now ((w - c.loop-k.k) * size) c.next_field-last.ensures in
+    let size = address_bits c.args.shape.words w in
+    let taken = field-behind c.args.cursor (c.loop-k.k * size) c.loop-k.invariant.behind c.args.file.now ((w - c.loop-k.k) * size)
+    (rw (F.width, F.addressing) at c.next_field-last.ensures) in
     let all : c.loop-k.k + (w - c.loop-k.k) ≡ w = omega (arith, c.loop-k.invariant.within) in (
       taken.1 ∙ ap (onward c.args.cursor) (rest-fits w c.loop-k.k size c.loop-k.invariant.within),
-      taken-same all ((c.aim_group-2.ensures c.args.file.now c.args.cursor.at taken.0 c.loop-k.invariant.taken).none c.if-aim_group-2.false),
+      taken-same all (((rw F.width at c.aim_group-2.ensures) c.args.file.now c.args.cursor.at taken.0 c.loop-k.invariant.taken).none c.if-aim_group-2.false),
     )

@@ -2,7 +2,6 @@
 -- the step is ready.
 use Rattle.std.proofs.Common.{sym, ◌∙◌}
 use Rattle.std.proofs.lemmas.Result.{err_from_is_err_and}
-use Rattle.tables.proofs.Form.{opened-shape}
 use Rattle.machine.proofs.Tests.{open-refused, open-goes-on, tests-refused, tests-go-on, tests-passed}
 use Rattle.machine.proofs.stepping.step.Goals as goal
 
@@ -12,9 +11,6 @@ returns-in_err-shape c =
     rw (is, same) (open-refused c.args.file.now c.args.clock c.args.first.now c.args.second.now c.args.words.now c.args.out.now _
     (sym c.in_err-shape.ensures))
 
-pub test-requires : goal.test-requires
-test-requires c = opened-shape _ _ (sym c.«open».ensures ∙ c.in_ok-shape.was)
-
 pub returns-in_err-test : goal.returns-in_err-test
 returns-in_err-test c =
     let (e, is, same) = err_from_is_err_and c.from_residual-in_err-test.result c.from_residual-in_err-test.ensures.1 in
@@ -23,11 +19,11 @@ returns-in_err-test c =
     ∙ open-goes-on c.args.file.now c.args.clock c.args.first.now c.args.second.now c.args.words.now
     c.args.out.now c.in_ok-shape.shape (sym c.«open».ensures ∙ c.in_ok-shape.was))
 
-pub step_ready-requires-clause-shaped : goal.step_ready-requires-clause-shaped
-step_ready-requires-clause-shaped c =
+pub step_ready-requires-clause-in_range : goal.step_ready-requires-clause-in_range
+step_ready-requires-clause-in_range c =
     let passed = tests-passed c.in_ok-shape.shape.words c.in_ok-shape.shape.width c.args.file.now c.args.clock
     c.args.first.now c.args.second.now c.args.words.now c.args.out.now (sym c.in_ok-test.was ∙ c.test.ensures) in
-    (opened-shape _ _ (sym c.«open».ensures ∙ c.in_ok-shape.was), passed.0)
+    passed.0
 
 pub step_ready-requires-clause-room : goal.step_ready-requires-clause-room
 step_ready-requires-clause-room c =

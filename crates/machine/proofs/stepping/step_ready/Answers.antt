@@ -21,5 +21,5 @@ returns c =
     line-crossed c.args.shape.words c.args.shape.width c.args.file.now c.args.clock c.args.first.now
     c.args.second.now c.args.words.now c.args.out.now c.in_ok-crossed.crossed c.move_line.new.second says in
     line-goes-on c.args.shape.words c.args.shape.width c.args.file.now c.args.clock c.args.first.now
-    c.args.second.now c.args.words.now c.args.out.now c.requires.shaped.1 c.in_ok-crossed.crossed c.move_line.new.second says
+    c.args.second.now c.args.words.now c.args.out.now c.requires.in_range c.in_ok-crossed.crossed c.move_line.new.second says
     (c.answer.ensures c.args.file.now counted) c.enter.ensures c.leave.ensures

@@ -5,7 +5,6 @@ use Rattle.std.proofs.lemmas.Result.{err_from_is_err_and}
 use Rattle.refusal.specs.declared.Refusal.{Refusal}
 use Rattle.reading.specs.Reading.{read_of_opened, read_of}
 use Rattle.tables.specs.declared.Shape.{Shape}
-use Rattle.tables.proofs.Form.{opened-shape}
 use Rattle.reading.proofs.call.read.Goals as goal
 
 pub returns-in_err-shape : goal.returns-in_err-shape
@@ -14,9 +13,6 @@ returns-in_err-shape c =
     let (e, is, same) = err_from_is_err_and c.from_residual.result c.from_residual.ensures.1 in
     rw (is, same)
     (ap (λ (o : Result Shape Refusal). read_of_opened o c.args.file.now c.args.images.now c.args.scratch.now) c.in_err-shape.ensures)
-
-pub read_set-requires : goal.read_set-requires
-read_set-requires c = opened-shape _ _ (sym c.«open».ensures ∙ c.in_ok-shape.was)
 
 pub returns : goal.returns
 unfolding read_of read_of_opened

@@ -7,7 +7,8 @@ use Rattle.laws.proofs.Tabulates.{overwrite-ext, tabulate-get_or, tabulate-ext}
 use Rattle.tables.specs.Datapath.{image_of}
 use Rattle.reading.specs.Reading.{read_outcome}
 use Rattle.reading.specs.declared.Contents.{Contents}
-use Rattle.reading.proofs.Gathers.{gather_none, gather-images, gather-scan}
+use Rattle.reading.proofs.Gathers.{gather-images, gather-scan}
+use Rattle.tables.proofs.Shapes.{shape_fields}
 use Rattle.reading.proofs.call.read_by.Goals as goal
 
 -- the places of a part that is copied are those of the list
@@ -18,17 +19,16 @@ copied n xs before l =
     (rw (length-take-le n xs l) at (tabulate-get_or (take n xs) 0)
     ∙ tabulate-ext n (λ i. get_or (take n xs) i 0) (λ i. get_or xs i 0) (λ i m. get_or-take n xs i 0 m))
 
-pub gather-requires-clause-gather : goal.gather-requires-clause-gather
-gather-requires-clause-gather c = gather_none _ c.requires.shaped.0.dims c.requires.unmarked.0 c.requires.unmarked.1
-
 pub returns : goal.returns
 returns c =
     let file = c.args.file.now in
     let images = c.args.images.now in
+    let F = shape_fields c.shape.invariant c.shape.view_is in
     let n = c.args.shape.words in
     let told = rw (take_all (length file) file (omega arith)) at c.in_ok-pass.ensures in
-    let made = ap (λ (z : List ℕ). z ++ drop n images) c.copy_from_slice.ensures.after
+    let made = ap (λ (z : List ℕ). z ++ drop n images) (rw F.words at c.copy_from_slice.ensures.after)
     ∙ copied n c.gather.new.places images (omega (arith, c.gather.auto.places, c.requires.unmarked.0.long))
-    ∙ overwrite-ext n _ (image_of n c.args.shape.width file) images (gather-images c.requires.shaped.0.dims told.1) in
-    ap₂ (λ (k : Contents) (xs : List ℕ). read_outcome (Ok k) xs) (c.contents_of.ensures file told.0) made
-    ∙ sym (gather-scan told.1 (λ r. read_outcome (Err r) images) _)
+    ∙ overwrite-ext n _ (image_of n c.args.shape.width file) images (gather-images F.dims told.1) in
+    rw F.words
+    (ap₂ (λ (k : Contents) (xs : List ℕ). read_outcome (Ok k) xs) (c.contents_of.ensures.told file told.0) made
+    ∙ sym (gather-scan told.1 (λ r. read_outcome (Err r) images) _))

@@ -10,7 +10,8 @@ use Rattle.tables.proofs.Dims.{cycles-positive, cycles-few}
 use Rattle.tables.proofs.Crossings.{crossings-fit}
 use Rattle.reading.specs.inner.Gathering.{behind_lines}
 use Rattle.reading.proofs.Counts.{behind-stands, behind-none, behind_more, behind-room}
-use Rattle.reading.proofs.Gathers.{gathering-none, gathering-more, gathering-refused, gathering-all}
+use Rattle.reading.proofs.Gathers.{gather_none, gathering-none, gathering-more, gathering-refused, gathering-all}
+use Rattle.tables.proofs.Shapes.{shape_fields}
 use Rattle.reading.proofs.gathering.gather.Goals as goal
 
 -- the crossed switches of a line are added to those of the lines before it
@@ -19,20 +20,21 @@ unfolding sum
 counted-more crossings e f = rw add-one (ap₂ ◌+◌ e f)
 
 pub cursor_at-cursor-requires : goal.cursor_at-cursor-requires
-cursor_at-cursor-requires c = (c.requires.shaped, cycles-positive c.requires.shaped.dims)
+cursor_at-cursor-requires c = cycles-positive (shape_fields c.shape.invariant c.shape.view_is).dims
 
 pub loop-t-init : goal.loop-t-init
 unfolding sum
 loop-t-init c = record {
-  gathering = gathering-none c.requires.gather;
+  gathering =
+      gathering-none (gather_none c.args.file.now (shape_fields c.shape.invariant c.shape.view_is).dims c.requires.unmarked.0 c.requires.unmarked.1);
   behind = c.cursor_at-cursor.ensures ∙ behind-none c.args.shape.words c.args.shape.width;
   counted = refl;
 }
 
-pub gather_line-requires-clause-shaped : goal.gather_line-requires-clause-shaped
-gather_line-requires-clause-shaped c =
-    let S = c.requires.shaped in
-    (S, rw c.loop-t.invariant.behind (behind-room S.dims c.loop-t.t (rw S.cycles at c.loop-t-test.true)), c.long_enough-bytes.ensures.long)
+pub gather_line-requires-clause-in_bounds : goal.gather_line-requires-clause-in_bounds
+gather_line-requires-clause-in_bounds c =
+    let F = shape_fields c.shape.invariant c.shape.view_is in
+    (rw c.loop-t.invariant.behind (behind-room F.dims c.loop-t.t (rw F.cycles at c.loop-t-test.true)), c.long_enough-bytes.ensures.long)
 
 pub gather_line-requires-clause-at_value : goal.gather_line-requires-clause-at_value
 gather_line-requires-clause-at_value c =
@@ -42,22 +44,22 @@ pub returns-in_err-line : goal.returns-in_err-line
 returns-in_err-line c =
     let l = c.loop-t.invariant in
     let (e, is, same) = err_from_is_err_and c.from_residual.result c.from_residual.ensures.1 in
-    rw (is, same) (gathering-refused l.gathering (rw c.requires.shaped.cycles at c.loop-t-test.true)
+    rw (is, same) (gathering-refused l.gathering (rw (shape_fields c.shape.invariant c.shape.view_is).cycles at c.loop-t-test.true)
     (c.in_err-line.ensures c.args.file.now c.long_enough-bytes.ensures l.gathering.gathered))
 
 pub overflow_add-crossed : goal.overflow_add-crossed
 overflow_add-crossed c =
-    let S = c.requires.shaped in
+    let F = shape_fields c.shape.invariant c.shape.view_is in
     let l = c.loop-t.invariant in
     let told = c.in_ok-line.ensures c.args.file.now c.long_enough-bytes.ensures l.gathering.gathered in
-    let left : c.loop-t.t < cycles c.args.shape.words c.args.shape.width = rw S.cycles at c.loop-t-test.true in
+    let left : c.loop-t.t < cycles c.args.shape.words c.args.shape.width = rw F.cycles at c.loop-t-test.true in
     record {
       fits = omega (
         arith,
         counted-more (line_crossings c.args.shape.words c.args.shape.width c.args.file.now) l.counted told.1,
-        crossings-fit S.dims c.args.file.now (c.loop-t.t + 1),
+        crossings-fit F.dims c.args.file.now (c.loop-t.t + 1),
         left,
-        cycles-few S.dims,
+        cycles-few F.dims,
       );
     }
 
@@ -68,7 +70,7 @@ loop-t-preserved c =
     let l = c.loop-t.invariant in
     let told = c.in_ok-line.ensures c.args.file.now c.long_enough-bytes.ensures l.gathering.gathered in
     record {
-      gathering = gathering-more l.gathering (rw c.requires.shaped.cycles at c.loop-t-test.true) told.2;
+      gathering = gathering-more l.gathering (rw (shape_fields c.shape.invariant c.shape.view_is).cycles at c.loop-t-test.true) told.2;
       behind = told.0 ∙ ap (λ (x : Cursor). onward x (line_bits n w)) l.behind ∙ behind_more n w c.loop-t.t;
       counted = counted-more (line_crossings n w c.args.file.now) l.counted told.1;
     }
@@ -78,7 +80,7 @@ returns c =
     let n = c.args.shape.words in
     let w = c.args.shape.width in
     let l = c.loop-t.invariant in
-    let over : cycles n w ≤ c.loop-t.t = rw c.requires.shaped.cycles at c.loop-t-test.false in
+    let over : cycles n w ≤ c.loop-t.t = rw (shape_fields c.shape.invariant c.shape.view_is).cycles at c.loop-t-test.false in
     let last : c.loop-t.t ≡ cycles n w = omega (arith, l.gathering.upto) in (
       record {
         behind = l.behind ∙ ap (behind_lines n w) last;

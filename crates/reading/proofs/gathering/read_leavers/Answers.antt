@@ -7,11 +7,8 @@ use Rattle.laws.specs.Tabulate.{overwrite}
 use Rattle.tables.specs.Datapath.{image_of}
 use Rattle.reading.specs.Reading.{read_outcome}
 use Rattle.reading.specs.declared.Contents.{Contents}
-use Rattle.reading.proofs.Gathers.{gather_none, stopped-reads, gathered-reads, leavers-inverse}
+use Rattle.reading.proofs.Gathers.{stopped-reads, gathered-reads, leavers-inverse}
 use Rattle.reading.proofs.gathering.read_leavers.Goals as goal
-
-pub gather-requires-clause-gather : goal.gather-requires-clause-gather
-gather-requires-clause-gather c = gather_none _ c.requires.0.dims c.requires.1 c.requires.2
 
 pub returns-in_err-pass : goal.returns-in_err-pass
 returns-in_err-pass c =
@@ -28,9 +25,9 @@ returns c = λ images scratch l m.
     let n = c.args.shape.words in
     let w = c.args.shape.width in
     let all = c.in_ok-pass.ensures in
-    let same = c.contents_of.ensures file all.0 in
+    let same = c.contents_of.ensures.told file all.0 in
     let after = overwrite n (image_of n w file) images in (
       after,
       ap (λ (x : Contents). read_outcome (Ok x) after) same ∙ gathered-reads n w file images scratch l m all.1,
-      λ contents e. leavers-inverse c.requires.0.dims all.1 images contents (ap Ok (sym same) ∙ e),
+      λ contents e. leavers-inverse c.contents_of.ensures.dims all.1 images contents (ap Ok (sym same) ∙ e),
     )

@@ -4,92 +4,90 @@ use Rattle.std.proofs.Common.{◌+◌, ◌*◌, ◌≡◌, sym, ap, ◌∙◌, a
 use Rattle.refusal.specs.declared.Refusal.TheVariants.{ReadAddress, WriteAddress}
 use Rattle.std.proofs.lemmas.Result.{err_from_is_err_and}
 use Rattle.bits.specs.Reading.{onward}
+use Rattle.tables.specs.Terms.{address_bits, switch_bits}
 use Rattle.tables.proofs.Dims.{depth-reaches, lines-few}
 use Rattle.tables.proofs.Cursors.{room-less, room-behind, carried_on}
-use Rattle.tables.proofs.Opens.{shape_same}
-use Rattle.tables.proofs.Passes.{line-fits, line-sized}
+use Rattle.tables.proofs.Passes.{line-parts, line-sized}
 use Rattle.tables.proofs.Held.{reads_of, zeros-self, crossings-held}
 use Rattle.reading.proofs.Known.{send, read-refused, carry-refused, write-refused, line-passes}
+use Rattle.tables.proofs.Shapes.{shape_fields}
 use Rattle.reading.proofs.gathering.wide_line.Goals as goal
 
-pub take_reads-requires-clause-shaped : goal.take_reads-requires-clause-shaped
-take_reads-requires-clause-shaped c =
-    let S = c.requires.shaped.0 in
-    (S, c.requires.shaped.2, room-less c.requires.shaped.1 (omega (arith, (line-fits S.dims (shape_same S)).all)))
+pub take_reads-requires-clause-in_bounds : goal.take_reads-requires-clause-in_bounds
+take_reads-requires-clause-in_bounds c =
+    (c.requires.in_bounds.1, room-less c.requires.in_bounds.0 (omega (arith, line-parts c.args.shape.words c.args.shape.width)))
 
 pub returns-in_err-next : goal.returns-in_err-next
 returns-in_err-next c =
+    let F = shape_fields c.shape.invariant c.shape.view_is in
     let (e, is, same) = err_from_is_err_and c.from_residual.result c.from_residual.ensures.1 in
     let refusal : c.in_err-next.field-0.0 ≡ ReadAddress c.args.t = grind arith in
     let outside = rw c.in_err-next.ensures.ok_part at c.take_reads.ensures in
     rw (is, same, refusal)
-    (λ file Z G. read-refused c.args.shape c.args.cursor c.args.t c.requires.shaped.0 Z c.requires.at_value G outside)
+    (λ file Z G. read-refused c.args.cursor c.args.t F.dims Z c.requires.at_value G outside)
 
 pub carry-carried-requires : goal.carry-carried-requires
 carry-carried-requires c =
-    let S = c.requires.shaped.0 in
-    let row = c.args.shape.width * c.args.shape.addressing in (
-      S,
-      c.requires.shaped.2,
-      room-behind c.args.cursor row (rw c.in_ok-next.ensures.ok_part at c.take_reads.ensures).0 c.requires.shaped.1 (omega (arith, (line-fits S.dims (shape_same S)).all)),
+    let row = c.args.shape.width * address_bits c.args.shape.words c.args.shape.width in (
+      c.requires.in_bounds.1,
+      room-behind c.args.cursor row (rw c.in_ok-next.ensures.ok_part at c.take_reads.ensures).0 c.requires.in_bounds.0 (omega (arith, line-parts c.args.shape.words c.args.shape.width)),
     )
 
 pub spare_used-requires : goal.spare_used-requires
 spare_used-requires c =
-    let S = c.requires.shaped.0 in
-    let sized = line-sized S.dims (shape_same S) in
+    let F = shape_fields c.shape.invariant c.shape.view_is in
+    let sized = line-sized c.args.shape.width in
     let long = (c.carry-carried.ensures.2 sized.0 sized.1).long in
-    (rw S.lines (depth-reaches c.args.shape.width), omega (arith, long, S.lines, lines-few S.dims))
+    rw (F.width, F.lines) (depth-reaches c.args.shape.width, omega (arith, long, lines-few F.dims))
 
 pub returns-then-spare_used : goal.returns-then-spare_used
 returns-then-spare_used c file Z G k refused next =
-    carry-refused c.args.shape c.args.cursor c.args.t c.requires.shaped.0 Z c.requires.at_value G (rw c.in_ok-next.ensures.ok_part at c.take_reads.ensures).0
-    (rw c.in_ok-next.ensures.ok_part at c.take_reads.ensures).1.sound c.carry-carried.ensures.2 (sym c.if-spare_used.true ∙ c.spare_used.ensures) k refused next
+    let F = shape_fields c.shape.invariant c.shape.view_is in
+    carry-refused c.args.cursor c.args.t F.dims Z c.requires.at_value G (rw c.in_ok-next.ensures.ok_part at c.take_reads.ensures).0
+    (rw c.in_ok-next.ensures.ok_part at c.take_reads.ensures).1.sound c.carry-carried.ensures.2 (sym c.if-spare_used.true ∙ (rw (F.width, F.lines) at c.spare_used.ensures)) k refused next
 
-pub take_writes-written-requires-clause-shaped : goal.take_writes-written-requires-clause-shaped
-take_writes-written-requires-clause-shaped c =
-    let S = c.requires.shaped.0 in
-    let row = c.args.shape.width * c.args.shape.addressing in
-    let behind = carried_on c.args.cursor row (rw c.in_ok-next.ensures.ok_part at c.take_reads.ensures).0 c.args.shape.switches c.carry-carried.ensures.0 in (
-      S,
-      c.requires.shaped.2,
-      room-behind c.args.cursor (row + c.args.shape.switches) behind c.requires.shaped.1 (omega (arith, (line-fits S.dims (shape_same S)).all)),
+pub take_writes-written-requires-clause-in_bounds : goal.take_writes-written-requires-clause-in_bounds
+take_writes-written-requires-clause-in_bounds c =
+    let row = c.args.shape.width * address_bits c.args.shape.words c.args.shape.width in
+    let behind = carried_on c.args.cursor row (rw c.in_ok-next.ensures.ok_part at c.take_reads.ensures).0 (switch_bits c.args.shape.width) c.carry-carried.ensures.0 in (
+      c.requires.in_bounds.1,
+      room-behind c.args.cursor (row + switch_bits c.args.shape.width) behind c.requires.in_bounds.0 (omega (arith, line-parts c.args.shape.words c.args.shape.width)),
     )
 
 pub take_writes-written-requires-clause-by_index : goal.take_writes-written-requires-clause-by_index
 take_writes-written-requires-clause-by_index c =
-    let S = c.requires.shaped.0 in
+    let F = shape_fields c.shape.invariant c.shape.view_is in
     let told = (rw c.in_ok-next.ensures.ok_part at c.take_reads.ensures) in (
       reads_of c.args.shape.words c.args.shape.width c.args.bytes.now c.args.t,
-      send c.args.shape c.args.cursor c.args.t S (zeros-self c.requires.shaped.2) c.requires.at_value told.0 c.carry-carried.ensures.2
-          told.1.sound (sym c.if-spare_used.false ∙ c.spare_used.ensures) told.1.kept,
+      send c.args.cursor c.args.t F.dims (zeros-self c.requires.in_bounds.1) c.requires.at_value told.0 c.carry-carried.ensures.2
+          told.1.sound (sym c.if-spare_used.false ∙ (rw (F.width, F.lines) at c.spare_used.ensures)) told.1.kept,
     )
 
 pub returns-in_err-end : goal.returns-in_err-end
 returns-in_err-end c =
-    let S = c.requires.shaped.0 in
+    let F = shape_fields c.shape.invariant c.shape.view_is in
     let told = rw c.in_ok-next.ensures.ok_part at c.take_reads.ensures in
-    let none = sym c.if-spare_used.false ∙ c.spare_used.ensures in
-    let row = c.args.shape.width * c.args.shape.addressing in
-    let behind = carried_on c.args.cursor row told.0 c.args.shape.switches c.carry-carried.ensures.0 in
+    let none = sym c.if-spare_used.false ∙ (rw (F.width, F.lines) at c.spare_used.ensures) in
+    let row = c.args.shape.width * address_bits c.args.shape.words c.args.shape.width in
+    let behind = carried_on c.args.cursor row told.0 (switch_bits c.args.shape.width) c.carry-carried.ensures.0 in
     let (e, is, same) = err_from_is_err_and c.from_residual-in_err-end.result c.from_residual-in_err-end.ensures.1 in
     let refusal : c.in_err-end.field-0.0 ≡ WriteAddress c.args.t = grind arith in
     rw (is, same, refusal)
     (λ file Z G.
-    let sent = send c.args.shape c.args.cursor c.args.t S Z c.requires.at_value told.0 c.carry-carried.ensures.2 told.1.sound none told.1.kept in
-    write-refused c.args.shape c.args.cursor c.args.t S Z c.requires.at_value G told.0 told.1.sound c.carry-carried.ensures.2 behind none
+    let sent = send c.args.cursor c.args.t F.dims Z c.requires.at_value told.0 c.carry-carried.ensures.2 told.1.sound none told.1.kept in
+    write-refused c.args.cursor c.args.t F.dims Z c.requires.at_value G told.0 told.1.sound c.carry-carried.ensures.2 behind none
     (rw c.in_err-end.ensures.ok_part at (c.take_writes-written.ensures _ sent)))
 
 pub returns : goal.returns
 returns c file Z G =
-    let S = c.requires.shaped.0 in
+    let F = shape_fields c.shape.invariant c.shape.view_is in
     let told = rw c.in_ok-next.ensures.ok_part at c.take_reads.ensures in
-    let none = sym c.if-spare_used.false ∙ c.spare_used.ensures in
-    let row = c.args.shape.width * c.args.shape.addressing in
-    let behind = carried_on c.args.cursor row told.0 c.args.shape.switches c.carry-carried.ensures.0 in
-    let sent = send c.args.shape c.args.cursor c.args.t S Z c.requires.at_value told.0 c.carry-carried.ensures.2 told.1.sound none told.1.kept in
+    let none = sym c.if-spare_used.false ∙ (rw (F.width, F.lines) at c.spare_used.ensures) in
+    let row = c.args.shape.width * address_bits c.args.shape.words c.args.shape.width in
+    let behind = carried_on c.args.cursor row told.0 (switch_bits c.args.shape.width) c.carry-carried.ensures.0 in
+    let sent = send c.args.cursor c.args.t F.dims Z c.requires.at_value told.0 c.carry-carried.ensures.2 told.1.sound none told.1.kept in
     let wrote = rw c.in_ok-end.ensures.ok_part at (c.take_writes-written.ensures _ sent) in (
-      carried_on c.args.cursor (row + c.args.shape.switches) behind row wrote.0 ∙ ap (onward c.args.cursor) (line-fits S.dims (shape_same S)).all,
-      crossings-held c.args.shape c.args.cursor c.args.t S Z c.requires.at_value told.0 c.carry-carried.ensures.1,
-      line-passes c.args.shape c.args.cursor c.args.t S Z c.requires.at_value G told.0 told.1.sound c.carry-carried.ensures.2 behind none wrote.1,
+      carried_on c.args.cursor (row + switch_bits c.args.shape.width) behind row wrote.0 ∙ ap (onward c.args.cursor) (line-parts c.args.shape.words c.args.shape.width),
+      crossings-held c.args.cursor c.args.t F.dims Z c.requires.at_value told.0 c.carry-carried.ensures.1,
+      line-passes c.args.cursor c.args.t F.dims Z c.requires.at_value G told.0 told.1.sound c.carry-carried.ensures.2 behind none wrote.1,
     )
