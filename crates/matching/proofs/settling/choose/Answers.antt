@@ -18,7 +18,7 @@ pub least_key-requires : goal.least_key-requires
 least_key-requires c =
     let seat = c.args.seat.port in
     let here = compared c.minus.ensures seat (sym c.member_of.ensures ∙ c.if-member_of-eq1.true) c.requires.preferred.gone in
-    (λ e. omega (arith, here, ap (λ (x : ℕ). member x seat) e, member-zero seat), omega (arith, c.args.layout.few))
+    (λ e. omega (arith, here, ap (λ (x : ℕ). member x seat) e, member-zero seat), omega (arith, c.args.graph.layout.few))
 
 pub returns-then-member_of-eq1 : goal.returns-then-member_of-eq1
 returns-then-member_of-eq1 c =

@@ -5,9 +5,9 @@ use Rattle.limits.specs.Limits.{most_width}
 use Rattle.matching.proofs.Seats.{seating-first, seating-kept}
 use Rattle.matching.proofs.settling.first.Goals as goal
 
-pub seat-rest-requires-clause-by_index : goal.seat-rest-requires-clause-by_index
-seat-rest-requires-clause-by_index c =
-    (c.requires.by_index, λ d l. omega (arith, get_or-replicate {A = ℕ} most_width d 0 0 (omega (arith, l, c.args.layout.few))))
+pub seat-rest-requires-clause-seats_value : goal.seat-rest-requires-clause-seats_value
+seat-rest-requires-clause-seats_value c = λ d l.
+    omega (arith, get_or-replicate {A = ℕ} most_width d 0 0 (omega (arith, l, c.args.layout.few)))
 
 pub returns-then-rest-eq0 : goal.returns-then-rest-eq0
 returns-then-rest-eq0 c =

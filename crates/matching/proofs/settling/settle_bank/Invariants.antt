@@ -7,11 +7,11 @@ use Rattle.matching.specs.Graph.{Edge}
 use Rattle.matching.specs.inner.Settling.{Settling}
 use Rattle.matching.proofs.settling.settle_bank.Given as goal
 
-abbrev pub invariant-loop-layout : goal.invariant-loop-layout
-invariant-loop-layout l =
+abbrev pub invariant-loop-seat : goal.invariant-loop-seat
+invariant-loop-seat l =
     (l.owner ≡ l.initial.owner)
-    × ((w : ℕ) → Settling (Edge l.edges) w l.initial.owner l.bank l.vacant l.vacant
-    → Settling (Edge l.edges) w l.owner l.bank l.vacant l.hopeful)
+    × ((w : ℕ) → Settling (Edge l.graph.edges.now) w l.initial.owner l.bank l.vacant l.vacant
+    → Settling (Edge l.graph.edges.now) w l.owner l.bank l.vacant l.hopeful)
 
-abbrev pub decreases-loop-layout : goal.decreases-loop-layout
-decreases-loop-layout l = sum most_width (member l.hopeful)
+abbrev pub decreases-loop-seat : goal.decreases-loop-seat
+decreases-loop-seat l = sum most_width (member l.hopeful)
