@@ -26,7 +26,8 @@ pub loop-t-init : goal.loop-t-init
 unfolding sum
 loop-t-init c = record {
   gathering =
-      gathering-none (gather_none c.args.file.now (shape_fields c.shape.invariant c.shape.view_is).dims c.requires.unmarked.0 c.requires.unmarked.1);
+      let F = shape_fields c.shape.invariant c.shape.view_is in
+      gathering-none (gather_none c.args.file.now F.dims c.requires.unmarked.0 c.requires.unmarked.1);
   behind = c.cursor_at-cursor.ensures ∙ behind-none c.args.shape.words c.args.shape.width;
   counted = refl;
 }
@@ -34,7 +35,8 @@ loop-t-init c = record {
 pub gather_line-requires-clause-in_bounds : goal.gather_line-requires-clause-in_bounds
 gather_line-requires-clause-in_bounds c =
     let F = shape_fields c.shape.invariant c.shape.view_is in
-    (rw c.loop-t.invariant.behind (behind-room F.dims c.loop-t.t (rw F.cycles at c.loop-t-test.true)), c.long_enough-bytes.ensures.long)
+    let fits = behind-room F.dims c.loop-t.t (rw F.cycles at c.loop-t-test.true) in
+    (rw c.loop-t.invariant.behind fits, c.long_enough-bytes.ensures.long)
 
 pub gather_line-requires-clause-at_value : goal.gather_line-requires-clause-at_value
 gather_line-requires-clause-at_value c =

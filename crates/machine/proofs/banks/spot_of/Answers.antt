@@ -2,7 +2,7 @@
 use Rattle.std.proofs.Common.{arith}
 use Rattle.tables.proofs.Shapes.{shape_fields}
 use Rattle.machine.proofs.Indexes.{index-spot, index-inside, shape-few}
-use Rattle.machine.proofs.rows.spot_of.Goals as goal
+use Rattle.machine.proofs.banks.spot_of.Goals as goal
 
 pub overflow_mul-result : goal.overflow_mul-result
 overflow_mul-result c = omega (arith, shape-few (shape_fields c.shape.invariant c.shape.view_is))

@@ -2,7 +2,7 @@
 use Rattle.std.proofs.Common.{get_or, refl}
 use Rattle.machine.specs.inner.Rows.{stored}
 use Rattle.machine.proofs.Takes.{stored_more}
-use Rattle.machine.proofs.rows.put_words.Goals as goal
+use Rattle.machine.proofs.banks.put_words.Goals as goal
 
 pub loop-k-init : goal.loop-k-init
 unfolding stored
