@@ -94,7 +94,7 @@ take_line-requires-clause-ranked c =
     let F = shape_fields c.shape.invariant c.shape.view_is in
     let P = c.loop-t.invariant.putting in
     let U = due F c.requires.permutes c.requires.by_index.0.1 c.requires.words_in_bounds.0 c.loop-t-test.true P.scheduled in
-    λ m. ranked-unread c.args.images.now _ (rw (← F.width) at U)
+    λ m. ranked-unread c.args.images.now (rw (← F.width) at U)
     (rw (F.width, F.cycles) (roomy F)) (rw (F.width, F.cycles) (P.unread (rw F.width at m))) m
 
 pub plan_line-requires-clause-w_nonzero : goal.plan_line-requires-clause-w_nonzero
