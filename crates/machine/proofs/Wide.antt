@@ -2,7 +2,7 @@
 -- found there are the definition's tests, in its order, and the words of a line that passes them move.
 use Prim.Native.Nat.{ℕ, ◌+◌, ◌*◌, ◌-◌, ◌^◌, ◌≤◌}
 use mathlib.Core.Path.{◌≡◌, subst, sym, ap, ◌∙◌}
-use mathlib.Core.Bool.{true, false}
+use mathlib.Core.Bool.{Bool, true, false}
 use mathlib.Core.List.{List}
 use native.Mathlib.Omega.{arith}
 use lib.ListN.{length, get_or}
@@ -16,16 +16,24 @@ use Rattle.tables.specs.Format.{cursor_at, line_at}
 use Rattle.tables.specs.Datapath.{carry_strays}
 use Rattle.tables.specs.inner.Lines.{Sends, spare_used}
 use Rattle.tables.specs.declared.Pass.{Pass}
+use Rattle.tables.specs.Shapes.{Size}
 use Rattle.tables.specs.declared.Shape.{Shape}
+use Rattle.tables.specs.declared.Shape.TheInside.{Inside}
 use Rattle.tables.proofs.Cursors.{line-room, room-less, room-behind, carried_on}
 use Rattle.tables.proofs.Held.{reads_of, writes_of, read-row, write-row, crossings-held, line-held, spare-held}
 use Rattle.tables.proofs.Lined.{Line}
 use Rattle.tables.proofs.Passes.{line-parts}
+use Rattle.tables.proofs.Shapes.{Fields}
 use Rattle.clock.specs.declared.Clock.{Clock}
 use Rattle.machine.specs.inner.Ready.{InRange, line_outcome, move_of}
 use Rattle.machine.specs.inner.Rows.{row_of, spot_in, word_in, Outside, Taken, Sent, stored}
 use Rattle.machine.proofs.Taking.{reads-out, reads_in, writes-out, writes-in, words-sent, words-put}
 use Rattle.machine.proofs.Tests.{read-refused, carry-refused, write-refused, line-moves}
+
+-- the spare lines, by the fields of a shape
+pub spare-told : {s : Inside} {z : Size} → Fields s z → (sources : List ℕ) {used : Bool} → used ≡ spare_used sources s.width s.lines
+    → used ≡ spare_used sources z.width (2 ^ depth z.width)
+spare-told F sources told = rw (F.width, F.lines) at told
 
 module _ {shape : Shape} (D : Dims shape.words shape.width) {clock : Clock} (G : InRange (cycles shape.words shape.width) clock) {cursor : Cursor}
     (begun : cursor ≡ cursor_at shape.words shape.width clock.cycle) where

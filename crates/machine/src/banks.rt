@@ -1,6 +1,6 @@
 // The banks of the two memories, and the two rows of addresses of a line of many banks. This module is private to the
 // crate, so its functions may have a `requires`.
-ghost use Rattle.std.specs.Prelude.{◌≡◌, List, ℕ, ◌+◌, ◌*◌, ◌<◌, ◌≤◌, length, get_or};
+ghost use Rattle.std.specs.Prelude.{◌≡◌, ◌+◌, ◌*◌, ◌<◌, ◌≤◌, length, get_or};
 ghost use Rattle.std.proofs.Common.{refl, ◌∙◌};
 ghost use Rattle.bits.specs.inner.Taking.{Room};
 ghost use Rattle.tables.specs.Terms.{cycles, address_bits};

@@ -13,5 +13,6 @@ abbrev pub invariant-loop-t : goal.invariant-loop-t
 invariant-loop-t l = record {
   blank : Blank l.shape.width l.plan.reads l.plan.forward l.plan.back l.plan.writes;
   putting : Putting l.shape.words l.shape.width (order_of (length l.images) l.images)
-      (whole_of l.initial.file (header_bits l.shape.words) l.initial.held) l.t ((cycles l.shape.words l.shape.width + 63) / 64) l.heads l.edges l.places l.file l.held;
+      (whole_of l.initial.file (header_bits l.shape.words) l.initial.held) l.t ((cycles l.shape.words l.shape.width + 63) / 64)
+      l.heads l.edges l.places l.file l.held;
 }

@@ -23,9 +23,13 @@ next-is n w clock file same e counted = ap₂ advance (e ∙ ap (λ (z : ℕ). n
 pub returns-then-clock-ge2 : goal.returns-then-clock-ge2
 unfolding says_of
 returns-then-clock-ge2 c file counted =
-    if_lt-no _ _ _ _ _ (omega (arith, c.if-clock-ge2.true)) (ap (λ (x : Advance). Ok (Wrote x)) (next-is c.args.shape.words c.args.shape.width c.args.clock file (shape_fields c.shape.invariant c.shape.view_is).cycles c.next.ensures counted))
+    let F = shape_fields c.shape.invariant c.shape.view_is in
+    if_lt-no _ _ _ _ _ (omega (arith, c.if-clock-ge2.true)) (ap (λ (x : Advance). Ok (Wrote x))
+    (next-is c.args.shape.words c.args.shape.width c.args.clock file F.cycles c.next.ensures counted))
 
 pub returns : goal.returns
 unfolding says_of
 returns c file counted =
-    if_lt-yes _ _ _ _ _ (omega (arith, c.if-clock-ge2.false)) (ap (λ (x : Advance). Ok (Filling x)) (next-is c.args.shape.words c.args.shape.width c.args.clock file (shape_fields c.shape.invariant c.shape.view_is).cycles c.next.ensures counted))
+    let F = shape_fields c.shape.invariant c.shape.view_is in
+    if_lt-yes _ _ _ _ _ (omega (arith, c.if-clock-ge2.false)) (ap (λ (x : Advance). Ok (Filling x))
+    (next-is c.args.shape.words c.args.shape.width c.args.clock file F.cycles c.next.ensures counted))

@@ -1,13 +1,11 @@
--- `lines::put_eight` meets its contract: the bytes of the number's upper half are put behind those of the lower.
-use mathlib.Core.Path.{refl}
-use native.Mathlib.Omega.{arith}
-use Rattle.laws.proofs.Puts.{put-ext, put-append}
-use Rattle.tables.proofs.Puts.{byte-mod, byte-div}
+-- `lines::put_eight` meets its contract: the part becomes the number's bytes.
+use Rattle.std.proofs.Common.{◌≡◌, ◌+◌, ◌-◌, ◌∙◌, arith}
+use Rattle.tables.proofs.Puts.{put-eight}
 use Rattle.tables.proofs.lines.put_eight.Goals as goal
 
 pub returns : goal.returns
 returns c =
-    let p = c in
-    let d = p in
-    let eight = d.args.eight in
-    put-append (put-ext d.put_four.ensures (λ j l. byte-mod eight 32 j (omega arith))) p.put_four-2.ensures refl (λ j l. byte-div eight 4 j)
+    let a = c.args in
+    let long : a.from + 8 - a.from ≡ 8 = omega arith in
+    let part = c.copy_from_slice.ensures.after ∙ c.to_le_bytes.ensures in
+    rw (long, part) (put-eight a.eight a.from a.found.now (omega (arith, c.requires)))
