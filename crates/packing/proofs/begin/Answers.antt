@@ -17,9 +17,12 @@ room n w file l = omega (arith, file_length-header n w)
 pub put_front-front-requires : goal.put_front-front-requires
 put_front-front-requires c =
     let shape = c.args.shape in
-    let F = shape_fields c.shape.invariant c.shape.view_is in
-    (omega arith, omega (arith, F.dims.narrow), omega arith,
-    omega (arith, room shape.words shape.width _ c.requires, bytes-few shape.words))
+    let F = shape_fields c.shape.invariant c.shape.view_is in (
+      omega arith,
+      omega (arith, F.dims.narrow),
+      omega arith,
+      omega (arith, room shape.words shape.width _ c.requires, bytes-few shape.words),
+    )
 
 pub write-requires-clause-fact : goal.write-requires-clause-fact
 write-requires-clause-fact c =

@@ -44,9 +44,10 @@ overflow_add-end-2 c =
 
 pub finish-requires : goal.finish-requires
 finish-requires c =
-    let E = ending (shape_fields c.shape.invariant c.shape.view_is) in
-    (c.write-window.ensures.0,
-    omega (arith, E.end, E.reaches, c.file_length.ensures, c.requires.in_bounds, c.write-window.auto.bytes))
+    let E = ending (shape_fields c.shape.invariant c.shape.view_is) in (
+      c.write-window.ensures.0,
+      omega (arith, E.end, E.reaches, c.file_length.ensures, c.requires.in_bounds, c.write-window.auto.bytes),
+    )
 
 pub returns : goal.returns
 returns c =

@@ -1,5 +1,5 @@
 -- `move_wide`: the tests are the definition's, in its order, and the words of a line that passes them move.
-use Rattle.std.proofs.Common.{◌≡◌, sym, ◌∙◌, arith, rules}
+use Rattle.std.proofs.Common.{◌≡◌, sym, ◌∙◌, arith}
 use Rattle.std.proofs.lemmas.Result.{err_from_is_err_and}
 use Rattle.refusal.specs.declared.Refusal.TheVariants.{ReadAddress, WriteAddress}
 use Rattle.tables.proofs.Dims.{depth-reaches, lines-few}

@@ -1,5 +1,5 @@
 -- `write_images`: turn i writes image i.
-use Rattle.std.proofs.Common.{◌≡◌, get_or, arith}
+use Rattle.std.proofs.Common.{get_or, arith}
 use Rattle.laws.proofs.Tabulates.{overwrite-none, overwrite-turn}
 use Rattle.reading.proofs.call.write_images.Goals as goal
 

@@ -46,11 +46,11 @@ set_bits-requires t c =
     let s = r.by_index.1 in
     let few = r.forward_len_bound in
     let P = parted _ _ _ s (λ e. omega arith) in
-    let up = c.set_outer.ensures.inner_pair in
-    let down = c.set_outer.ensures.inner_pair_2 in
+    let up = c.set_outer.ensures.upper in
+    let down = c.set_outer.ensures.lower in
     let inverses = inner-inverses _ _ r.inverses _ _ s (parted-more P) 0 (omega arith) up few in
     let m : ℕ = length c.args.forward.now / 2 in
-    let long : length (take m c.set_outer.new.upper) ≡ m = length-take-le m _ (omega (arith, up.long, few)) in (
+    let long : length (take m c.set_outer.new.images.upper) ≡ m = length-take-le m _ (omega (arith, up.long, few)) in (
       omega (arith, c.decreases, long, P.width-all, P.some),
       (
         (_, upper-sized _ _ r.inverses _ _ s (parted-more P) up down few _ c.set_outer.auto.bits),
@@ -64,7 +64,7 @@ slice_bounds-set_bits-end-in_default-5 t c =
     let s = r.by_index.1 in
     let P = parted _ _ _ s (λ e. omega arith) in
     let outer = c.set_outer.ensures in
-    let long = upper_long _ _ r.inverses _ _ s (parted-more P) outer.inner_pair outer.inner_pair_2 r.forward_len_bound _
+    let long = upper_long _ _ r.inverses _ _ s (parted-more P) outer.upper outer.lower r.forward_len_bound _
     c.set_outer.auto.bits _ c.set_bits.ensures in
     omega (arith, P.count-all, P.some, long)
 
@@ -74,11 +74,11 @@ set_bits-requires-in_default t c =
     let s = r.by_index.1 in
     let few = r.forward_len_bound in
     let P = parted _ _ _ s (λ e. omega arith) in
-    let up = c.set_outer.ensures.inner_pair in
-    let down = c.set_outer.ensures.inner_pair_2 in
+    let up = c.set_outer.ensures.upper in
+    let down = c.set_outer.ensures.lower in
     let inverses = inner-inverses _ _ r.inverses _ _ s (parted-more P) 1 (omega arith) down few in
     let m : ℕ = length c.args.forward.now / 2 in
-    let long : length (take m c.set_outer.new.lower) ≡ m = length-take-le m _ (omega (arith, down.long, few)) in (
+    let long : length (take m c.set_outer.new.images.lower) ≡ m = length-take-le m _ (omega (arith, down.long, few)) in (
       omega (arith, c.decreases, long, P.width-all, P.some),
       (
         (_, lower-sized _ _ r.inverses _ _ s (parted-more P) up down few _ c.set_outer.auto.bits _ c.set_bits.ensures),
@@ -91,5 +91,5 @@ returns-in_default t c = λ d q.
     let r = c.requires in
     let P = parted _ _ _ r.by_index.1 (λ e. omega arith) in
     let o = c.set_outer.ensures in
-    both-set _ _ r.inverses d _ q (parted-more P) o.inner_pair o.inner_pair_2 r.forward_len_bound _
+    both-set _ _ r.inverses d _ q (parted-more P) o.upper o.lower r.forward_len_bound _
     c.set_outer.auto.bits _ c.set_bits.ensures _ o.outer c.set_bits-in_default.ensures

@@ -26,24 +26,24 @@ set_inputs-requires c =
 pub set_outputs-requires : goal.set_outputs-requires
 set_outputs-requires c =
     let r = c.requires in
-    wirable _ _ r.inverses _ _ r.by_index.1 r.in_bounds.0 _ c.lower_lines-low.ensures c.set_inputs.ensures.bits.long r.in_bounds.1
+    wirable _ _ r.lines _ _ r.by_index.1 r.in_bounds.0 _ c.lower_lines-low.ensures c.set_inputs.ensures.bits.long r.in_bounds.1
 
 pub returns-clause-outer : goal.returns-clause-outer
 returns-clause-outer c =
     let r = c.requires in
     let P = parted _ _ _ r.by_index.1 (λ e. omega (arith, r.in_bounds.0)) in
     let inputs = c.set_inputs.ensures in
-    outer _ _ r.inverses _ _ r.by_index.1 r.in_bounds.0 c.lower_lines-low.result c.lower_lines-low.ensures refl inputs.bits c.set_outputs.ensures.bits
+    outer _ _ r.lines _ _ r.by_index.1 r.in_bounds.0 c.lower_lines-low.result c.lower_lines-low.ensures refl inputs.bits c.set_outputs.ensures.bits
     (omega (arith, P.count-all, inputs.bits.long))
 
-pub returns-clause-inner_pair : goal.returns-clause-inner_pair
-returns-clause-inner_pair c =
+pub returns-clause-upper : goal.returns-clause-upper
+returns-clause-upper c =
     let r = c.requires in
-    inner-pair _ _ r.inverses _ _ r.by_index.1 r.in_bounds.0 0 (omega arith) c.lower_lines-low.result c.lower_lines-low.ensures
-    c.set_inputs.ensures.above c.set_outputs.ensures.above (omega (arith, r.inverses.long))
+    inner-pair _ _ r.lines _ _ r.by_index.1 r.in_bounds.0 0 (omega arith) c.lower_lines-low.result c.lower_lines-low.ensures
+    c.set_inputs.ensures.above c.set_outputs.ensures.above (omega (arith, r.lines.long))
 
-pub returns-clause-inner_pair_2 : goal.returns-clause-inner_pair_2
-returns-clause-inner_pair_2 c =
+pub returns-clause-lower : goal.returns-clause-lower
+returns-clause-lower c =
     let r = c.requires in
-    inner-pair _ _ r.inverses _ _ r.by_index.1 r.in_bounds.0 1 (omega arith) c.lower_lines-low.result c.lower_lines-low.ensures
-    c.set_inputs.ensures.beneath c.set_outputs.ensures.beneath (omega (arith, r.inverses.long))
+    inner-pair _ _ r.lines _ _ r.by_index.1 r.in_bounds.0 1 (omega arith) c.lower_lines-low.result c.lower_lines-low.ensures
+    c.set_inputs.ensures.beneath c.set_outputs.ensures.beneath (omega (arith, r.lines.long))
