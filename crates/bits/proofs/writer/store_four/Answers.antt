@@ -1,5 +1,5 @@
 -- `store_four` meets its contract: the field of four bytes is their stores, one after the other, and so a copy of them.
-use Rattle.std.proofs.Common.{◌≡◌, ℕ, suc, ◌+◌, ◌/◌, ◌%◌, ◌^◌, ◌<◌, ◌≤◌, List, length, set, refl, sym, ◌∙◌, arith}
+use Rattle.std.proofs.Common.{◌≡◌, ℕ, suc, ◌+◌, ◌/◌, ◌%◌, ◌^◌, ◌<◌, ◌≤◌, List, length, set, refl, sym, ap, ◌∙◌, arith}
 use Rattle.std.proofs.lemmas.List.{append_assoc, drop-drop}
 use Rattle.std.proofs.lemmas.List.Edits.{sets, sets-eq}
 use Rattle.std.specs.Int.{bytes_high_first}
@@ -26,6 +26,7 @@ returns c =
     let xs = c.args.bytes.now in
     let f = c.args.first in
     let v = c.args.value in
-    part-sets xs (bytes_high_first 4 v) c.copy_from_slice.new.self f _ (c.copy_from_slice.ensures.after ∙ c.to_be_bytes.ensures) (omega arith)
+    part-sets xs (bytes_high_first 4 v) c.copy_from_slice.new.self f _
+    (c.copy_from_slice.ensures.after ∙ c.to_be_bytes.ensures ∙ ap (bytes_high_first 4) (omega (arith, c.requires.short))) (omega arith)
     (omega (arith, c.requires.room))
     ∙ sets-four xs f v c.requires.short ∙ put_field-four c.requires.bytes f v c.requires.room c.requires.short
