@@ -2,7 +2,7 @@
 use Rattle.std.proofs.Common.{sym, arith}
 use Rattle.laws.proofs.Choices.{false-true}
 use Rattle.rows.proofs.Marks.{inside}
-use Rattle.rows.proofs.Groups.{kept_more}
+use Rattle.rows.proofs.Groups.{kept-at, sound-at}
 use Rattle.tables.proofs.Shapes.{shape_fields}
 use Rattle.rows.proofs.wide.ReadsBanks.take.Goals as goal
 
@@ -28,14 +28,21 @@ pub returns-clause-told : goal.returns-clause-told
 returns-clause-told c start addresses e H =
     let F = shape_fields c.shape.invariant c.shape.view_is in
     let K = rw H.0 at H.1 in
-    let sound = (c.unfit.ensures.1 addresses e K.sound).none c.if-unfit.false in
+    let sound = (sound-at _ (omega (arith, c.requires.in_bounds, F.width, F.dims.narrow)) (c.unfit.ensures.1 addresses) e K.sound).none c.if-unfit.false in
     record {
       found = false-true;
-      none = λ _. (H.0, rw H.0 (record { sound = sound; kept = rw F.width (kept_more F.dims K.kept c.requires.in_bounds e) }));
+      none = λ _. (
+        H.0,
+        rw H.0 (record {
+          sound = sound;
+          kept = kept-at F.dims K.kept c.requires.in_bounds e (omega (arith, c.requires.in_bounds, F.width, F.dims.narrow))
+              (rw F.width (omega (arith, c.requires.in_bounds, F.width, F.dims.narrow)));
+        }),
+      );
     }
 
 pub returns-then-unfit-clause-told : goal.returns-then-unfit-clause-told
 returns-then-unfit-clause-told c start addresses e H =
     let K = rw H.0 at H.1 in
-    let fault = (c.unfit.ensures.1 addresses e K.sound).found c.if-unfit.true in
+    let fault = (sound-at _ (omega arith) (c.unfit.ensures.1 addresses) e K.sound).found c.if-unfit.true in
     record { found = λ _. rw H.0 fault; none = λ q. false-true (sym q) }
